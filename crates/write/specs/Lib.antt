@@ -1,0 +1,3 @@
+-- The text of every writer, and what a writer answers and leaves in the output.
+pub mod Text
+pub mod Output
