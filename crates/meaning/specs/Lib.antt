@@ -3,3 +3,4 @@ pub mod Line
 pub mod Input
 pub mod Parts
 pub mod Due
+pub mod Ascii

@@ -24,8 +24,13 @@ unfoldable pub lines : List ℕ → List (List ℕ)
 unfolding pieces line
 lines xs = map line (pieces xs)
 
--- one trailing `\r` goes, never two
+-- one trailing byte b goes, never two
+unfoldable pub trimLast : (b : ℕ) → List ℕ → List ℕ
+trimLast b [] = []
+trimLast b (x ∷ []) = cond (eqb x b) [] (x ∷ [])
+trimLast b (x ∷ y ∷ r) = x ∷ trimLast b (y ∷ r)
+
+-- a line as it is shown
 unfoldable pub trimCr : List ℕ → List ℕ
-trimCr [] = []
-trimCr (x ∷ []) = cond (eqb x 13) [] (x ∷ [])
-trimCr (x ∷ y ∷ r) = x ∷ trimCr (y ∷ r)
+unfolding trimLast
+trimCr xs = trimLast 13 xs

@@ -5,6 +5,8 @@ use mathlib.Core.List.{List, [], _∷_, _++_}
 use mathlib.Core.Option.{Option, none, some}
 use lib.ListN.{length, take, drop}
 use lib.Dec.{eqb}
+use Rattle.meaning.specs.Line.{trimLast}
+use Rattle.meaning.specs.Input.{Rec}
 use Rattle.meaning.specs.Parts.{joined}
 
 -- `write_head` is `>`, head, `\n`
@@ -66,8 +68,16 @@ recordText head ls = headText head ++ seqText (joined ls)
 abbrev pub recordWrapText : (head : List ℕ) (ls : List (List ℕ)) (wrap : ℕ) → List ℕ
 recordWrapText head ls wrap = headText head ++ wrapSeqIterText wrap ls
 
+abbrev pub endsIn : (b : ℕ) → List ℕ → Bool
+endsIn b [] = false
+endsIn b (x ∷ []) = eqb x b
+endsIn b (x ∷ y ∷ r) = endsIn b (y ∷ r)
+
 -- `write_unchanged` copies from `>` to the last recorded end and adds `\n` unless the copy ends in `\n`
 unfoldable pub unchangedText : (copy : List ℕ) → List ℕ
-unchangedText [] = 10 ∷ []
-unchangedText (x ∷ []) = cond (eqb x 10) (x ∷ []) (x ∷ 10 ∷ [])
-unchangedText (x ∷ y ∷ r) = x ∷ unchangedText (y ∷ r)
+unchangedText copy = cond (endsIn 10 copy) copy (copy ++ (10 ∷ []))
+
+-- the copy of a record: its last end is the end of its last line
+unfoldable pub copyOf : Rec → List ℕ
+unfolding trimLast
+copyOf r = trimLast 10 (r .bytes)

@@ -1,0 +1,33 @@
+-- What the program writes (01, module 10). Per record: line, tab, byte, tab, id, tab, joined length, newline. Then `end` or `refused N`,
+-- newline. Assumes nothing.
+use Prim.Native.Nat.{ℕ, zero, suc, _+_, _/_, _%_}
+use mathlib.Core.Bool.{Bool, true, false}
+use mathlib.Core.List.{List, [], _∷_, _++_}
+use lib.ListN.{length}
+use lib.Dec.{ltb}
+use Rattle.meaning.specs.Ascii.{ascii}
+use Rattle.meaning.specs.Input.{Rec}
+use Rattle.meaning.specs.Parts.{headOf, seqOf, idOf}
+use Rattle.meaning.specs.Due.{Said, gives, ends, refuses}
+
+-- the digits of n, of which there are at most `more` behind the first
+unfoldable pub decimalIn : (more n : ℕ) → List ℕ
+decimalIn zero n = (48 + n) ∷ []
+decimalIn (suc more) n =
+    elim (ltb n 10) [ true ↦ (48 + n) ∷ [] | false ↦ decimalIn more (n / 10) ++ ((48 + n % 10) ∷ []) ]
+
+unfoldable pub decimal : ℕ → List ℕ
+unfolding decimalIn
+decimal n = decimalIn n n
+
+unfoldable pub row : Rec → List ℕ
+unfolding decimal headOf seqOf idOf
+row r = decimal (r .line) ++ (9 ∷ (decimal (r .byte) ++ (9 ∷ (idOf (headOf r) ++ (9 ∷ (decimal (length (seqOf r)) ++ (10 ∷ [])))))))
+
+-- it stops at anything but a record
+unfoldable pub listing : List Said → List ℕ
+unfolding row decimal ascii
+listing [] = []
+listing (gives r ∷ rest) = row r ++ listing rest
+listing (ends ∷ rest) = ascii "end\n"
+listing (refuses number values ∷ rest) = ascii "refused " ++ (decimal number ++ (10 ∷ []))
