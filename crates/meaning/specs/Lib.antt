@@ -4,3 +4,4 @@ pub mod Input
 pub mod Parts
 pub mod Due
 pub mod Ascii
+pub mod OnePass

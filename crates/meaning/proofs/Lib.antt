@@ -1,0 +1,3 @@
+-- Laws of the meaning of an input.
+pub mod Bytes
+pub mod OnePass
