@@ -32,7 +32,7 @@ pub data Reply : Type 0 where
   sizes : List ℕ → Reply
   texts : List (List ℕ) → Reply
 
-abbrev pub shown : Said → Shown
+abbrev pub shown : Said Rec → Shown
 unfolding headOf seqLines
 shown (gives r) = shows (r .line) (r .byte) (headOf r) (seqLines r)
 shown ends = the-end

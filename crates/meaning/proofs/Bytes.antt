@@ -2,15 +2,13 @@
 -- same split as that of the lines: a line's first byte stands at its front, every other byte goes to the line before it. Assumes nothing.
 use Prim.Native.Nat.{ℕ, suc, _+_}
 use native.Mathlib.Omega.{arith}
-use native.Mathlib.Numerals.{add-one}
 use mathlib.Core.Bool.{Bool, true, false, cond, _&&_}
 use mathlib.Core.List.{List, [], _∷_, _++_}
 use mathlib.Core.Path.{_≡_, refl, sym, ap, _∙_}
 use lib.ListN.{length}
 use lib.Dec.{eqb}
-use borrow.Author.Tests.{eqb-true, ne-eqb}
 use Rattle.meaning.specs.Line.{pieces, onFirst}
-use Rattle.meaning.specs.Input.{Rec, Split, split, begins, recordsFrom}
+use Rattle.meaning.specs.Input.{Split, split, recordsFrom}
 
 -- a byte before a split: at the front of a record that starts there, or of the loose bytes
 abbrev pub put : (starts : Bool) (l b x : ℕ) → Split → Split

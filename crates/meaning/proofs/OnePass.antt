@@ -4,16 +4,16 @@
 use Prim.Native.Nat.{ℕ, zero, suc, pred, _+_, _-_, _≤_, _<_}
 use native.Mathlib.Omega.{arith}
 use native.Mathlib.Numerals.{add-one, add-two}
-use mathlib.Core.Bool.{Bool, true, false, cond, _&&_}
-use mathlib.Core.List.{List, [], _∷_, _++_, map, append-nil, append-assoc, nil≢cons}
+use mathlib.Core.Bool.{Bool, true, false, cond}
+use mathlib.Core.List.{List, [], _∷_, _++_, map, append-nil, nil≢cons}
 use mathlib.Core.Path.{_≡_, refl, sym, ap, _∙_}
-use lib.ListN.{length, getD, take, drop, length-append, length-drop, drop-of-length-le}
+use lib.ListN.{length, getD, take, drop, length-append, length-drop}
 use lib.Seq.{take-suc, getD-drop, append-snoc}
 use lib.Dec.{eqb}
 use native.Mathlib.Nat.{le-refl}
 use borrow.Author.Tests.{eqb-true, ne-eqb}
 use Rattle.meaning.specs.Line.{pieces, line, onFirst}
-use Rattle.meaning.specs.Input.{Rec, Split, split, begins, blank, recordsFrom, Meaning, records, refused, led, meaningFrom, meaning}
+use Rattle.meaning.specs.Input.{Rec, Split, split, blank, recordsFrom, Meaning, records, refused, led, meaningFrom, meaning}
 use Rattle.meaning.specs.OnePass.{Mark, marks, Marked, good, bad, leadMarks}
 use Rattle.meaning.proofs.Bytes.{cut, put, after, recs-cut}
 
@@ -36,7 +36,7 @@ at-cons (y ∷ X) (suc p) x xs e =
     record { there = omega (arith, a .there); is = a .is; next = a .next }
 
 -- one byte more of X behind those from b to p
-take-more : (X : List ℕ) (b p x : ℕ) (xs : List ℕ) → b ≤ p → At X p x xs → take (suc p - b) (drop b X) ≡ take (p - b) (drop b X) ++ (x ∷ [])
+pub take-more : (X : List ℕ) (b p x : ℕ) (xs : List ℕ) → b ≤ p → At X p x xs → take (suc p - b) (drop b X) ≡ take (p - b) (drop b X) ++ (x ∷ [])
 take-more X b p x xs h a =
     let e : suc p - b ≡ suc (p - b) = omega arith in
     let f : b + (p - b) ≡ p = omega arith in
@@ -193,3 +193,34 @@ module _ (X : List ℕ) where
 pub whole-meaning : (X : List ℕ) → seen X (leadMarks 1 0 X false) ≡ meaning X
 unfolding meaning
 whole-meaning X = lead-meaning X 1 0 X refl
+
+-- What the lead of X comes to: nothing, a refusal, or a `>` at a place of X, on a line within the bounds of refusal 5.
+pub data Lead (X : List ℕ) : Marked → Type 0 where
+  nothing : Lead X (good [])
+  refusal : (l x : ℕ) → Lead X (bad l x)
+  start : (l b : ℕ) (xs : List ℕ) → drop b X ≡ 62 ∷ xs → 1 ≤ l → l ≤ suc b → Lead X (good (marks l b (suc b) [] xs false))
+
+module _ (X : List ℕ) where
+  pub lead-is : (xs : List ℕ) (l p : ℕ) (cr : Bool) → drop p X ≡ xs → 1 ≤ l → l ≤ suc p → Lead X (leadMarks l p xs cr)
+  unfolding leadMarks
+  lead-is [] l p cr e h k = nothing
+  lead-is (x ∷ xs) l p true e h k = go (eqb x 10) refl (lead-is xs (suc l) (suc p) false (at-cons X p x xs e .next) (omega arith) (omega arith))
+    where
+      go : (t : Bool) → eqb x 10 ≡ t → Lead X (leadMarks (suc l) (suc p) xs false) → Lead X (leadMarks l p (x ∷ xs) true)
+      go true t next = rw (t, leadMarks) next
+      go false t next = rw (t, leadMarks) (refusal l 13)
+  lead-is (x ∷ xs) l p false e h k =
+      go (eqb x 10) refl (eqb x 13) refl (eqb x 62) refl
+      (lead-is xs (suc l) (suc p) false (at-cons X p x xs e .next) (omega arith) (omega arith))
+      (lead-is xs l (suc p) true (at-cons X p x xs e .next) h (omega arith))
+    where
+      go : (t : Bool) → eqb x 10 ≡ t → (u : Bool) → eqb x 13 ≡ u → (v : Bool) → eqb x 62 ≡ v
+          → Lead X (leadMarks (suc l) (suc p) xs false) → Lead X (leadMarks l (suc p) xs true) → Lead X (leadMarks l p (x ∷ xs) false)
+      go true t u f v g next on = rw (t, leadMarks) next
+      go false t true f v g next on = rw (t, leadMarks, f) on
+      go false t false f true g next on =
+          rw (t, leadMarks, f, g) (start l p xs (e ∙ ap (λ (y : ℕ). y ∷ xs) (eqb-true x 62 g)) h k)
+      go false t false f false g next on = rw (t, leadMarks, f, g) (refusal l x)
+
+  pub whole-lead : Lead X (leadMarks 1 0 X false)
+  whole-lead = lead-is X 1 0 false refl (omega arith) (omega arith)

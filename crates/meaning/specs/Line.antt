@@ -1,7 +1,7 @@
 -- Lines (01, "What a whole input means"): a line ends before a `\n` (byte 10) or at the input's end. One trailing `\r` (byte 13) is
 -- trimmed from a line shown, never two. Assumes nothing.
 use Prim.Native.Nat.{ℕ}
-use mathlib.Core.Bool.{Bool, true, false, cond}
+use mathlib.Core.Bool.{cond}
 use mathlib.Core.List.{List, [], _∷_, map}
 use lib.Dec.{eqb}
 

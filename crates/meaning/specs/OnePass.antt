@@ -2,10 +2,12 @@
 -- place and the ends so far, as a reader does. It says the same as Input.antt and Due.antt (proofs/OnePass.antt, proofs/Marks.antt).
 -- Places are byte offsets in the input. Assumes nothing.
 use Prim.Native.Nat.{ℕ, suc, pred, _+_, _-_}
-use mathlib.Core.Bool.{Bool, true, false}
+use mathlib.Core.Bool.{Bool, true, false, cond, _&&_, _||_}
 use mathlib.Core.List.{List, [], _∷_, _++_}
-use lib.ListN.{length, getD}
+use mathlib.Core.Option.{Option, none, some}
+use lib.ListN.{length, getD, take, drop}
 use lib.Dec.{eqb, ltb, leb}
+use Rattle.meaning.specs.Due.{Said, ends, refuses, dueBy}
 
 -- A record as one pass finds it: line and byte of its `>`, its number of bytes, and where its lines end, the head's first.
 pub record Mark : Type 0 where
@@ -44,3 +46,24 @@ leadMarks l p (x ∷ xs) false =
         | false ↦ elim (eqb x 62) [ true ↦ good (marks l p (suc p) [] xs false) | false ↦ bad l x ]
       ]
     ]
+
+-- Refusals 4 and 3 by a mark's numbers: over T `\n` among the first C - 1 bytes, that is, an end T that stands there.
+unfoldable pub tableMark : (C T : ℕ) → Mark → Bool
+tableMark C T m = ltb T (length (m .ends)) && (leb (m .len + 1) C || ltb (suc (getD (m .ends) T 0)) (m .byte + C))
+
+unfoldable pub judgedMark : (C T : ℕ) → Mark → Option ℕ
+unfolding tableMark
+judgedMark C T m = cond (tableMark C T m) (some 4) (cond (ltb C (m .len + 1)) (some 3) none)
+
+abbrev pub placeMark : Mark → List ℕ
+placeMark m = m .line ∷ m .byte ∷ []
+
+unfoldable pub dueMarks : (C T : ℕ) → Marked → List (Said Mark)
+unfolding dueBy judgedMark
+dueMarks C T (good ms) = dueBy (judgedMark C T) placeMark ms
+dueMarks C T (bad l x) = refuses 2 (l ∷ x ∷ []) ∷ ends ∷ []
+
+-- the lines that end at the given ends, the first from place a on, each other one from behind the end before it
+unfoldable pub linesAt : (X : List ℕ) (a : ℕ) → (ends : List ℕ) → List (List ℕ)
+linesAt X a [] = []
+linesAt X a (e ∷ es) = take (e - a) (drop a X) ∷ linesAt X (suc e) es

@@ -1,7 +1,7 @@
 -- What the program writes (01, module 10). Per record: line, tab, byte, tab, id, tab, joined length, newline. Then `end` or `refused N`,
 -- newline. Assumes nothing.
 use Prim.Native.Nat.{ℕ, zero, suc, _+_, _/_, _%_}
-use mathlib.Core.Bool.{Bool, true, false}
+use mathlib.Core.Bool.{true, false}
 use mathlib.Core.List.{List, [], _∷_, _++_}
 use lib.ListN.{length}
 use lib.Dec.{ltb}
@@ -25,7 +25,7 @@ unfolding decimal headOf seqOf idOf
 row r = decimal (r .line) ++ (9 ∷ (decimal (r .byte) ++ (9 ∷ (idOf (headOf r) ++ (9 ∷ (decimal (length (seqOf r)) ++ (10 ∷ [])))))))
 
 -- it stops at anything but a record
-unfoldable pub listing : List Said → List ℕ
+unfoldable pub listing : List (Said Rec) → List ℕ
 unfolding row decimal ascii
 listing [] = []
 listing (gives r ∷ rest) = row r ++ listing rest
