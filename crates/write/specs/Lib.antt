@@ -2,3 +2,4 @@
 pub mod Text
 pub mod Output
 pub mod Listing
+pub mod ReadBack
