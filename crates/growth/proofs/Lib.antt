@@ -1,0 +1,2 @@
+-- Laws of growth and of its chain.
+pub mod Laws
