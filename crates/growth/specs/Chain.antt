@@ -1,9 +1,9 @@
 -- The chain of capacities from a present one, each the growth of the one before (01: "The largest reachable capacity is the last of this
 -- chain"). Growth rises and stays in the window, so a chain in a window of W bytes has at most W steps: they bound the recursion.
 -- Assumes nothing.
-use Prim.Native.Nat.{ℕ, zero, suc}
+use Prim.Native.Nat.{ℕ, zero, suc, _<_}
 use mathlib.Core.List.{List, [], _∷_}
-use mathlib.Core.Option.{Option, none, some}
+use mathlib.Core.Option.{none, some}
 use Rattle.growth.specs.Growth.{grown}
 use Rattle.growth.specs.declared.Policy.{Policy}
 
@@ -26,3 +26,13 @@ lastOf c (d ∷ ds) = lastOf d ds
 unfoldable pub largest : Policy → (window c : ℕ) → ℕ
 unfolding chain
 largest p window c = lastOf c (chain p window c)
+
+-- c below the first of some capacities
+abbrev pub Below : ℕ → List ℕ → Type 0
+Below c [] = Unit {0}
+Below c (d ∷ ds) = c < d
+
+-- each capacity below the next one
+abbrev pub Rising : List ℕ → Type 0
+Rising [] = Unit {0}
+Rising (c ∷ cs) = Below c cs × Rising cs

@@ -2,7 +2,7 @@
 -- `DoubleUntilLimited` does that and refuses above its limit. Sums are exact; a size above the window's length, or not above the present
 -- one, is no growth. Assumes nothing.
 use Prim.Native.Nat.{ℕ, _+_}
-use mathlib.Core.Bool.{Bool, true, false, cond, _&&_}
+use mathlib.Core.Bool.{cond, _&&_}
 use mathlib.Core.Option.{Option, none, some}
 use mathlib.Core.Path.{_≡_}
 use lib.Dec.{ltb, leb}

@@ -1,2 +1,9 @@
 // Leaves over bytes and line ends (01, module 2, and the leaves of module 4). Each is total: it tests its bounds once a call, and its
 // definition says what happens outside them.
+mod line;
+mod moves;
+
+pub use line::line_end;
+pub use line::trim_cr;
+pub use moves::move_down;
+pub use moves::move_ends;

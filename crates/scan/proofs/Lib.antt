@@ -1,0 +1,4 @@
+-- Laws of the leaves: a turn of each loop, and what callers cite.
+pub mod LineLaws
+pub mod MoveLaws
+pub mod Unique
