@@ -1,0 +1,2 @@
+-- Laws of the leaves.
+pub mod Paste
