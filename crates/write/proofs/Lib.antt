@@ -1,0 +1,2 @@
+-- Laws of the writers' texts.
+pub mod Wrap
