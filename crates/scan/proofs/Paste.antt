@@ -5,7 +5,7 @@ use mathlib.Core.Path.{_≡_, refl, sym, ap, _∙_}
 use mathlib.Core.Bool.{cond, true, false}
 use mathlib.Core.List.{List, [], _∷_, _++_, append-assoc}
 use lib.ListN.{length, take, drop, length-append}
-use lib.Seq.{paste, length-paste, take-paste, drop-paste, take-length, drop-drop}
+use lib.Seq.{paste, paste-zero, length-paste, take-paste, drop-paste, take-length, drop-drop}
 use borrow.Author.Tests.{le-leb, lt-leb}
 use Rattle.scan.specs.Move.{pasted}
 
@@ -49,3 +49,7 @@ pasted-behind at a b out h =
     ∙ ap (λ (l : List ℕ). take at out ++ l) (sym (append-assoc a b (drop (n + length b) out)))
     ∙ ap (λ (k : ℕ). take at out ++ ((a ++ b) ++ drop k out)) (sym joined)
     ∙ sym (pasted-room at (a ++ b) out (omega arith))
+
+-- nothing pasted changes nothing
+pub pasted-none : (at : ℕ) (out : List ℕ) → at ≤ length out → pasted at [] out ≡ out
+pasted-none at out h = sym (paste-all at [] out (omega arith)) ∙ sym (paste-zero out at [])

@@ -1,3 +1,4 @@
 -- The text of every writer, and what a writer answers and leaves in the output.
 pub mod Text
 pub mod Output
+pub mod Put
