@@ -9,20 +9,16 @@ use mathlib.Core.List.{List, [], _∷_, _++_}
 use lib.ListN.{length, drop}
 use borrow.Author.Tests.{le-leb, lt-leb, eq-eqb, ne-eqb}
 use Rattle.scan.proofs.Paste.{pasted-room}
+use Rattle.write.specs.Need.{cut}
 use Rattle.write.specs.Put.{Fits, Put}
 use Rattle.write.specs.Output.{Left, Answer, wrote, refuses, need, filled, wrapped, left}
 use Rattle.write.specs.declared.Wrote.the-variants.{Done, Wrap, Room}
 
-pub fill-refused : {n : ℕ} (text out : List ℕ) → n ≡ need text → length out < n → left (Room n) out ≡ filled text out
+pub fill-refused : {k n : ℕ} (text out : List ℕ) → length text ≡ k → n ≡ cut k → length out < n → left (Room n) out ≡ filled text out
 unfolding need filled
-fill-refused {n} text out e h =
+fill-refused {k} {n} text out e need h =
     let less : length out < length text = omega arith in
-    rw (lt-leb (length text) (length out) less) (λ i. record { answer = refuses 9 (e i ∷ []); out = out })
-
--- an output is shorter than 2^63 bytes, so a need that it holds is the text's length
-pub fill-fits : {n : ℕ} (text out : List ℕ) → n ≡ need text → n ≤ length out → length out < 2 ^ 63 → Fits 0 text out
-unfolding need
-fill-fits {n} text out e h k = omega arith
+    rw (lt-leb (length text) (length out) less) (λ i. record { answer = refuses 9 ((need ∙ ap cut (sym e)) i ∷ []); out = out })
 
 pub fill-done : {text out : List ℕ} {r : ℕ} {exit : List ℕ} → Fits 0 text out → Put 0 text out r exit → left (Done r) exit ≡ filled text out
 unfolding filled
@@ -30,7 +26,7 @@ fill-done {text} {out} {r} {exit} h p =
     let fits : length text ≤ length out = omega arith in
     let front = zero-add (length text) in
     let holds : exit ≡ text ++ drop (length text) out =
-      p .holds ∙ pasted-room 0 text out h ∙ ap (λ (n : ℕ). text ++ drop n out) front in
+    p .holds ∙ pasted-room 0 text out h ∙ ap (λ (n : ℕ). text ++ drop n out) front in
     rw (le-leb (length text) (length out) fits) (λ i. record { answer = wrote ((p .place ∙ front) i); out = holds i })
 
 -- a width 0 is refused with 10; any other fills

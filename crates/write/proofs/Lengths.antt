@@ -1,35 +1,26 @@
--- The length of each writer's text, and the need of refusal 9: that of two texts, one behind the other, is the sum of theirs, cut at
--- 2^64 - 1. Assumes nothing.
-use Prim.Native.Nat.{ℕ, zero, suc, _+_, _-_, _*_, _/_, _^_, _≤_, _<_, min}
+-- The length of each writer's text, which is the need of refusal 9. Assumes nothing.
+use Prim.Native.Nat.{ℕ, zero, suc, _+_, _-_, _/_, _≤_, _<_}
 use native.Mathlib.Nat.{add-div-right, div-eq-of-lt}
 use native.Mathlib.Decide.{decLe}
 use native.Mathlib.Omega.{arith}
 use mathlib.Core.Path.{_≡_, refl, sym, ap, _∙_}
+use mathlib.Core.Bool.{Bool, true, false}
 use mathlib.Core.List.{List, [], _∷_, _++_}
-use mathlib.Core.Option.{Option, none, some}
 use lib.ListN.{length, take, drop, length-append, length-take, length-drop}
 use Rattle.write.specs.Text.{headText, idDescText, seqText, wrapSeqText, toText, partsText, wrapText}
-use Rattle.write.specs.Output.{need}
+use Rattle.write.specs.Output.{described}
+use Rattle.write.specs.Need.{descLen, lineCount}
 use Rattle.write.proofs.Wrap.{wrap-none, wrap-line, by-lines}
 
 pub head-length : (head : List ℕ) → length (headText head) ≡ length head + 2
 head-length head = omega (arith, length-append head (10 ∷ []))
 
--- what a description adds: its length and that of the space
-abbrev pub added : Option (List ℕ) → ℕ
-added none = 0
-added (some desc) = length desc + 1
-
-pub id-desc-length : (id : List ℕ) (desc : Option (List ℕ)) → length (idDescText id desc) ≡ length id + added desc + 2
-id-desc-length id none = head-length id ∙ omega arith
-id-desc-length id (some desc) = head-length (id ++ (32 ∷ desc)) ∙ omega (arith, length-append id (32 ∷ desc))
+pub id-desc-length : (id : List ℕ) (with : Bool) (desc : List ℕ) → length (idDescText id (described with desc)) ≡ length id + descLen with (length desc) + 2
+id-desc-length id true desc = head-length (id ++ (32 ∷ desc)) ∙ omega (arith, length-append id (32 ∷ desc))
+id-desc-length id false desc = head-length id ∙ omega arith
 
 pub seq-length : (seq : List ℕ) → length (seqText seq) ≡ length seq + 1
 seq-length seq = length-append seq (10 ∷ [])
-
--- how many lines of `wrap` bytes `n` bytes are: their number divided by the width, rounded up
-abbrev pub lineCount : (wrap n : ℕ) → ℕ
-lineCount wrap n = (n + (wrap - 1)) / wrap
 
 pub lines-none : (wrap : ℕ) → 0 < wrap → lineCount wrap 0 ≡ 0
 lines-none wrap w = div-eq-of-lt (omega arith)
@@ -58,26 +49,17 @@ wrap-length wrap seq w =
     by-lines (λ (s : List ℕ). length (wrapSeqText wrap s) ≡ length s + lineCount wrap (length s)) wrap w
     (rw (wrap-none wrap) (omega (arith, lines-none wrap w)))
     (λ s h e. let behind : length (drop wrap s) ≡ length s - wrap = length-drop wrap s in
-      ap length (wrap-line wrap s w h)
-      ∙ length-append (take wrap s) (10 ∷ wrapSeqText wrap (drop wrap s))
-      ∙ omega (arith, length-take wrap s, e, behind, ap (lineCount wrap) behind, lines-more wrap (length s) w h))
+    ap length (wrap-line wrap s w h)
+    ∙ length-append (take wrap s) (10 ∷ wrapSeqText wrap (drop wrap s))
+    ∙ omega (arith, length-take wrap s, e, behind, ap (lineCount wrap) behind, lines-more wrap (length s) w h))
     seq
 
 pub to-length : (head seq : List ℕ) → length (toText head seq) ≡ length head + length seq + 3
 to-length head seq = omega (arith, length-append (headText head) (seqText seq), head-length head, seq-length seq)
 
-pub parts-length : (id : List ℕ) (desc : Option (List ℕ)) (seq : List ℕ) → length (partsText id desc seq) ≡ length id + added desc + length seq + 3
-parts-length id desc seq = omega (arith, length-append (idDescText id desc) (seqText seq), id-desc-length id desc, seq-length seq)
+pub parts-length : (id : List ℕ) (with : Bool) (desc seq : List ℕ) → length (partsText id (described with desc) seq) ≡ length id + descLen with (length desc) + length seq + 3
+parts-length id with desc seq = omega (arith, length-append (idDescText id (described with desc)) (seqText seq), id-desc-length id with desc, seq-length seq)
 
-pub wrap-text-length : (id : List ℕ) (desc : Option (List ℕ)) (seq : List ℕ) (wrap : ℕ) → 0 < wrap → length (wrapText id desc seq wrap) ≡ length id + added desc + length seq + lineCount wrap (length seq) + 2
-wrap-text-length id desc seq wrap w =
-    omega (arith, length-append (idDescText id desc) (wrapSeqText wrap seq), id-desc-length id desc, wrap-length wrap seq w)
-
--- the need of a text by its length
-pub need-of : {r : ℕ} (text : List ℕ) (n : ℕ) → length text ≡ n → r ≡ min n (2 ^ 64 - 1) → r ≡ need text
-unfolding need
-need-of {r} text n e h = omega arith
-
-pub need-both : {m n r : ℕ} (a b : List ℕ) → m ≡ need a → n ≡ need b → r ≡ min (m + n) (2 ^ 64 - 1) → r ≡ need (a ++ b)
-unfolding need
-need-both {m} {n} {r} a b p q s = omega (arith, length-append a b)
+pub wrap-text-length : (id : List ℕ) (with : Bool) (desc seq : List ℕ) (wrap : ℕ) → 0 < wrap → length (wrapText id (described with desc) seq wrap) ≡ length id + descLen with (length desc) + 2 + (length seq + lineCount wrap (length seq))
+wrap-text-length id with desc seq wrap w =
+    omega (arith, length-append (idDescText id (described with desc)) (wrapSeqText wrap seq), id-desc-length id with desc, wrap-length wrap seq w)

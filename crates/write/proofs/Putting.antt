@@ -38,7 +38,7 @@ pub rest-next : {at n m : ℕ} {text out a mid next : List ℕ} (b : List ℕ)
 rest-next {at} {n} {m} {text} {out} {a} {mid} {next} b fits r p =
     record {
       place = omega (arith, length-append a b, r .place, p .place);
-      holds = (λ i. pasted (p .place i) b (p .holds i)) ∙ pasted-behind m a b mid (omega (arith, length-append a b)) ∙ r .holds
+      holds = (λ i. pasted (p .place i) b (p .holds i)) ∙ pasted-behind m a b mid (omega (arith, length-append a b)) ∙ r .holds;
     }
 
 pub rest-put : {at m n : ℕ} {text out rest mid exit : List ℕ} → Rest at text out m rest mid → Put m rest mid n exit → Put at text out n exit

@@ -5,8 +5,13 @@ ghost use Rattle.write.specs.Output.{WriteHead, WriteIdDesc, WriteSeq, W
 mod need;
 mod put;
 
-use need::{head_need, id_desc_need, plus, seq_need, wrap_seq_need};
-use put::{put_head, put_id_desc, put_seq, put_wrap_seq};
+use need::id_desc_need;
+use need::plus;
+use need::wrap_seq_need;
+use put::put_head;
+use put::put_id_desc;
+use put::put_seq;
+use put::put_wrap_seq;
 
 // What a writer answers: the length written, refusal 10 (a width 0), or refusal 9 with the need.
 pub enum Wrote {
@@ -19,7 +24,7 @@ pub enum Wrote {
 pub fn write_head(head: &[u8], out: &mut [u8]) -> Wrote
     ensures { λ r. ⌜ WriteHead (now (head .entry)) (now (out .entry)) r (now (out .exit)) ⌝ }
 {
-    let need = head_need(head);
+    let need = head.len() + 2;
     if out.len() < need {
         return Wrote::Room(need);
     }
@@ -30,7 +35,7 @@ pub fn write_head(head: &[u8], out: &mut [u8]) -> Wrote
 pub fn write_id_desc(id: &[u8], with_desc: bool, desc: &[u8], out: &mut [u8]) -> Wrote
     ensures { λ r. ⌜ WriteIdDesc (now (id .entry)) «with_desc» (now (desc .entry)) (now (out .entry)) r (now (out .exit)) ⌝ }
 {
-    let need = id_desc_need(id, with_desc, desc);
+    let need = id_desc_need(id.len(), with_desc, desc.len());
     if out.len() < need {
         return Wrote::Room(need);
     }
@@ -41,7 +46,7 @@ pub fn write_id_desc(id: &[u8], with_desc: bool, desc: &[u8], out: &mut [u8]) ->
 pub fn write_seq(seq: &[u8], out: &mut [u8]) -> Wrote
     ensures { λ r. ⌜ WriteSeq (now (seq .entry)) (now (out .entry)) r (now (out .exit)) ⌝ }
 {
-    let need = seq_need(seq);
+    let need = seq.len() + 1;
     if out.len() < need {
         return Wrote::Room(need);
     }
@@ -55,7 +60,7 @@ pub fn write_wrap_seq(seq: &[u8], wrap: usize, out: &mut [u8]) -> Wrote
     if wrap == 0 {
         return Wrote::Wrap;
     }
-    let need = wrap_seq_need(seq, wrap);
+    let need = wrap_seq_need(seq.len(), wrap);
     if out.len() < need {
         return Wrote::Room(need);
     }
@@ -66,7 +71,7 @@ pub fn write_wrap_seq(seq: &[u8], wrap: usize, out: &mut [u8]) -> Wrote
 pub fn write_to(head: &[u8], seq: &[u8], out: &mut [u8]) -> Wrote
     ensures { λ r. ⌜ WriteTo (now (head .entry)) (now (seq .entry)) (now (out .entry)) r (now (out .exit)) ⌝ }
 {
-    let need = plus(head_need(head), seq_need(seq));
+    let need = plus(head.len() + 2, seq.len() + 1);
     if out.len() < need {
         return Wrote::Room(need);
     }
@@ -78,7 +83,7 @@ pub fn write_to(head: &[u8], seq: &[u8], out: &mut [u8]) -> Wrote
 pub fn write_parts(id: &[u8], with_desc: bool, desc: &[u8], seq: &[u8], out: &mut [u8]) -> Wrote
     ensures { λ r. ⌜ WriteParts (now (id .entry)) «with_desc» (now (desc .entry)) (now (seq .entry)) (now (out .entry)) r (now (out .exit)) ⌝ }
 {
-    let need = plus(id_desc_need(id, with_desc, desc), seq_need(seq));
+    let need = plus(id_desc_need(id.len(), with_desc, desc.len()), seq.len() + 1);
     if out.len() < need {
         return Wrote::Room(need);
     }
@@ -87,13 +92,23 @@ pub fn write_parts(id: &[u8], with_desc: bool, desc: &[u8], seq: &[u8], out: &mu
 }
 
 // The same with the sequence in lines of `wrap` bytes.
-pub fn write_wrap(id: &[u8], with_desc: bool, desc: &[u8], seq: &[u8], wrap: usize, out: &mut [u8]) -> Wrote
+pub fn write_wrap(
+    id: &[u8],
+    with_desc: bool,
+    desc: &[u8],
+    seq: &[u8],
+    wrap: usize,
+    out: &mut [u8],
+) -> Wrote
     ensures { λ r. ⌜ WriteWrap (now (id .entry)) «with_desc» (now (desc .entry)) (now (seq .entry)) wrap (now (out .entry)) r (now (out .exit)) ⌝ }
 {
     if wrap == 0 {
         return Wrote::Wrap;
     }
-    let need = plus(id_desc_need(id, with_desc, desc), wrap_seq_need(seq, wrap));
+    let need = plus(
+        id_desc_need(id.len(), with_desc, desc.len()),
+        wrap_seq_need(seq.len(), wrap),
+    );
     if out.len() < need {
         return Wrote::Room(need);
     }

@@ -41,7 +41,13 @@ fn put_desc(with_desc: bool, desc: &[u8], out: &mut [u8], at: usize) -> usize
     put(b"\n", out, at)
 }
 
-pub(crate) fn put_id_desc(id: &[u8], with_desc: bool, desc: &[u8], out: &mut [u8], at: usize) -> usize
+pub(crate) fn put_id_desc(
+    id: &[u8],
+    with_desc: bool,
+    desc: &[u8],
+    out: &mut [u8],
+    at: usize,
+) -> usize
     requires { ⌜ Fits at (idDescText (now id) (described «with_desc» (now desc))) (now out) ⌝ }
     ensures { λ r. ⌜ Put at (idDescText (now (id .entry)) (described «with_desc» (now (desc .entry)))) (now (out .entry)) r (now (out .exit)) ⌝ }
 {

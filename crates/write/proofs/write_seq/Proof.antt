@@ -1,47 +1,44 @@
+-- `write::write_seq` meets its contract. By the need, the sequence's text is refused or put at the front. Assumes nothing.
 use native.Mathlib.Omega.{arith}
-use Rattle.write.specs.Text.{seqText}
-use Rattle.write.proofs.Filling.{fill-refused, fill-fits, fill-done}
 use borrow.Author.Needs.{needs}
+use Rattle.write.specs.Put.{Fits}
+use Rattle.write.specs.Text.{seqText}
+use Rattle.write.proofs.Lengths.{seq-length}
+use Rattle.write.proofs.Filling.{fill-refused, fill-done}
 use Rattle.write.proofs.write_seq.Statement.{statement}
 use Rattle.write.proofs.write_seq.Tie as tie
-use Rattle.write.proofs.write_seq.Reads as reads
-use Rattle.write.proofs.write_seq.Lts as lts
-use Rattle.write.proofs.need.seq_need.Reads as seq-need-reads
-use Rattle.write.proofs.put.put_seq.Reads as put-seq-reads
 
--- src/lib.rt:44:9
-seq-need-requires : tie.Need-seq-need-requires
-seq-need-requires c κs = search needs
+add-need : tie.Need-add-need
+add-need c = search needs
 
--- src/lib.rt:46:9
 returns : tie.Need-returns
 returns c =
-    
-    let N = c .before in
-    let a = N .before .before .before .args in
-    fill-refused (seqText (a .seq .now)) (a .out .now) (N .seq-need .ensures) (omega arith)
+    let I = c in
+    let S = I .before .before .before in
+    let a = S .args in
+    let text = seqText (a .seq .now) in
+    fill-refused text (a .out .now) (seq-length (a .seq .now)) (omega arith) (omega arith)
 
--- src/lib.rt:48:17
 put-seq-requires : tie.Need-put-seq-requires
 put-seq-requires c κs =
-    
-    let N = c .before .before in
-    let a = N .before .before .before .args in
-    fill-fits (seqText (a .seq .now)) (a .out .now) (N .seq-need .ensures) (omega arith) (omega arith)
+    let I = c .before in
+    let S = I .before .before .before in
+    let a = S .args in
+    let text = seqText (a .seq .now) in
+    omega (arith, seq-length (a .seq .now), I .if1 .left, S .good .1 .0 .1)
 
--- src/lib.rt:41:1
 same-length : tie.Need-same-length
 same-length c = search needs
 
--- src/lib.rt:41:1
 returns-2 : tie.Need-returns-2
 returns-2 c =
-    
     let D = c .before .before in
-    let N = D .before .before .before in
-    let a = N .before .before .before .args in
-    fill-done (fill-fits (seqText (a .seq .now)) (a .out .now) (N .seq-need .ensures) (omega arith) (omega arith)) (D .put-seq .ensures)
+    let I = D .before .before in
+    let S = I .before .before .before in
+    let a = S .args in
+    let text = seqText (a .seq .now) in
+    let fits : Fits 0 text (a .out .now) = omega (arith, seq-length (a .seq .now), I .if1 .left, S .good .1 .0 .1) in
+    fill-done fits (D .put-seq .ensures)
 
 pub write-seq-spec : {M : Type 1} → statement M
-write-seq-spec =
-    tie.close (tie.spec seq-need-requires returns put-seq-requires same-length returns-2)
+write-seq-spec = tie.close (tie.spec add-need returns put-seq-requires same-length returns-2)

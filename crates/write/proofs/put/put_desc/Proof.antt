@@ -1,50 +1,34 @@
-use Prim.Native.Nat.{ℕ}
-use mathlib.Core.Bool.{Bool, true, false}
-use mathlib.Core.Path.{_≡_, sym, subst}
-use mathlib.Core.List.{List, [], _∷_, _++_}
-use Rattle.write.specs.Output.{described}
-use Rattle.write.specs.Put.{Fits, Put, descEnd}
+-- `write::put::put_desc` meets its contract. What is put is by the flag: a space and the description's line, or a `\n`. Assumes nothing.
+use mathlib.Core.List.{[], _∷_}
+use borrow.Author.Needs.{needs}
 use Rattle.write.specs.Text.{seqText}
 use Rattle.write.proofs.Putting.{first-fits, second-fits, put-both, fits-as, put-as, desc-by}
-use borrow.Author.Needs.{needs}
 use Rattle.write.proofs.put.put_desc.Statement.{statement}
 use Rattle.write.proofs.put.put_desc.Tie as tie
-use Rattle.write.proofs.put.put_desc.Reads as reads
-use Rattle.write.proofs.put.put_desc.Lts as lts
-use Rattle.write.proofs.put.put.Reads as put-reads
-use Rattle.write.proofs.put.put_seq.Reads as put-seq-reads
 
--- src/put.rt:38:26
 slice-aggregate-put : tie.Need-slice-aggregate-put
 slice-aggregate-put c = search needs
 
--- src/put.rt:38:13
 put-requires : tie.Need-put-requires
 put-requires c κs =
-    
     let I = c .before .before in
     let S = I .before .before .before in
     let a = S .args in
     first-fits (a .at) (32 ∷ []) (seqText (a .desc .now)) (a .out .now) (fits-as (a .at) (a .out .now) (desc-by (a .desc .now) (I .if1 .taken)) (S .pre))
 
--- src/put.rt:39:9
 put-seq-requires : tie.Need-put-seq-requires
 put-seq-requires c κs =
-    
     let C = c .before .before .before in
     let I = C .before .before .before in
     let S = I .before .before .before in
     let a = S .args in
     second-fits (seqText (a .desc .now)) (fits-as (a .at) (a .out .now) (desc-by (a .desc .now) (I .if1 .taken)) (S .pre)) (C .put .ensures)
 
--- src/put.rt:39:9
 same-length : tie.Need-same-length
 same-length c = search needs
 
--- src/put.rt:39:9
 returns : tie.Need-returns
 returns c =
-    
     let D = c .before .before in
     let C = D .before .before .before .before in
     let I = C .before .before .before in
@@ -53,26 +37,20 @@ returns c =
     let some = desc-by (a .desc .now) (I .if1 .taken) in
     put-as some (put-both (fits-as (a .at) (a .out .now) some (S .pre)) (C .put .ensures) (D .put-seq .ensures))
 
--- src/put.rt:41:9
 slice-aggregate-put-2 : tie.Need-slice-aggregate-put-2
 slice-aggregate-put-2 c = search needs
 
--- src/put.rt:41:5
 put-requires-2 : tie.Need-put-requires-2
 put-requires-2 c κs =
-    
     let I = c .before .before in
     let S = I .before .before .before in
     fits-as (S .args .at) (S .args .out .now) (desc-by (S .args .desc .now) (I .if1 .left)) (S .pre)
 
--- src/put.rt:33:1
 same-length-2 : tie.Need-same-length-2
 same-length-2 c = search needs
 
--- src/put.rt:33:1
 returns-2 : tie.Need-returns-2
 returns-2 c =
-    
     let C = c .before .before in
     let I = C .before .before .before in
     put-as (desc-by (I .before .before .before .args .desc .now) (I .if1 .left)) (C .put2 .ensures)

@@ -1,29 +1,20 @@
-use Prim.Native.Nat.{ℕ}
-use mathlib.Core.Path.{_≡_, sym, subst}
-use mathlib.Core.List.{List, [], _∷_, _++_}
-use Rattle.write.specs.Output.{described}
-use Rattle.write.specs.Put.{Fits, Put, descEnd}
-use Rattle.write.proofs.Putting.{first-fits, second-fits, put-both, id-desc-parts, fits-as, put-as}
+-- `write::put::put_id_desc` meets its contract. The `>`, the id and what stands behind it are put one behind the other. Assumes nothing.
+use mathlib.Core.List.{_++_}
 use borrow.Author.Needs.{needs}
+use Rattle.write.specs.Output.{described}
+use Rattle.write.specs.Put.{descEnd}
+use Rattle.write.proofs.Putting.{first-fits, second-fits, put-both, id-desc-parts, fits-as, put-as}
 use Rattle.write.proofs.put.put_id_desc.Statement.{statement}
 use Rattle.write.proofs.put.put_id_desc.Tie as tie
-use Rattle.write.proofs.put.put_id_desc.Reads as reads
-use Rattle.write.proofs.put.put_id_desc.Lts as lts
-use Rattle.write.proofs.put.put.Reads as put-reads
-use Rattle.write.proofs.put.put_desc.Reads as put-desc-reads
 
--- src/put.rt:48:20
 slice-aggregate-put : tie.Need-slice-aggregate-put
 slice-aggregate-put c = search needs
 
--- src/put.rt:48:9
 put-requires : tie.Need-put-requires
 put-requires c κs = search needs
 
--- src/put.rt:49:9
 put-requires-2 : tie.Need-put-requires-2
 put-requires-2 c κs =
-    
     let C = c .before .before .before in
     let S = C .before .before .before .before .before .before in
     let a = S .args in
@@ -31,10 +22,8 @@ put-requires-2 c κs =
     let all = fits-as (a .at) (a .out .now) (id-desc-parts (a .id .now) (described (a .with-desc) (a .desc .now))) (S .pre) in
     first-fits (C .put .result) (a .id .now) end (C .put .last .1 .0) (second-fits (a .id .now ++ end) all (C .put .ensures))
 
--- src/put.rt:50:5
 put-desc-requires : tie.Need-put-desc-requires
 put-desc-requires c κs =
-    
     let D = c .before .before .before in
     let C = D .before .before .before .before in
     let S = C .before .before .before .before .before .before in
@@ -43,14 +32,11 @@ put-desc-requires c κs =
     let all = fits-as (a .at) (a .out .now) (id-desc-parts (a .id .now) (described (a .with-desc) (a .desc .now))) (S .pre) in
     second-fits end (second-fits (a .id .now ++ end) all (C .put .ensures)) (D .put2 .ensures)
 
--- src/put.rt:44:1
 same-length : tie.Need-same-length
 same-length c = search needs
 
--- src/put.rt:44:1
 returns : tie.Need-returns
 returns c =
-    
     let E = c .before .before in
     let D = E .before .before .before .before in
     let C = D .before .before .before .before in

@@ -1,25 +1,17 @@
-use lib.ListN.{take, drop-of-length-le}
-use Rattle.write.specs.Text.{seqText}
-use Rattle.write.proofs.Putting.{Rest, rest-all, rest-next, rest-none, first-fits, fits-as, rest-as, wrap-next}
-use Rattle.write.proofs.Wrap.{wrap-none}
-use Prim.Native.Nat.{ℕ, _+_, _-_, _≤_}
+-- `write::put::put_wrap_seq` meets its contract. The loop's invariant: the lines from `i` on are what is still to be put (`Rest`).
+-- Assumes nothing.
+use Prim.Native.Nat.{_-_, _≤_}
 use native.Mathlib.Omega.{arith}
-use mathlib.Core.Path.{_≡_, refl, sym, ap, _∙_}
-use mathlib.Core.List.{List}
-use lib.ListN.{length, drop}
-use borrow.Author.Needs.{needs}
-use Rattle.scan.specs.Move.{pasted}
-use Rattle.write.specs.Text.{wrapSeqText}
+use mathlib.Core.Path.{_≡_, refl, ap, _∙_}
+use lib.ListN.{take, drop-of-length-le, length, drop}
+use Rattle.write.specs.Text.{seqText, wrapSeqText}
+use Rattle.write.proofs.Wrap.{wrap-none}
+use Rattle.write.proofs.Putting.{Rest, rest-all, rest-next, rest-none, first-fits, fits-as, rest-as, wrap-next}
 use Rattle.write.proofs.put.put_wrap_seq.Statement.{statement}
 use Rattle.write.proofs.put.put_wrap_seq.Tie as tie
-use Rattle.write.proofs.put.put_wrap_seq.Reads as reads
-use Rattle.write.proofs.put.put_wrap_seq.Lts as lts
-use Rattle.write.proofs.put.line_end.Reads as line-end-reads
-use Rattle.write.proofs.put.put_seq.Reads as put-seq-reads
 
 abbrev Inv-loop : tie.InvT-loop
 Inv-loop seq wrap out₀ at behind₀ i₀ out behind i =
-    
     (i ≤ length seq)
     × (length out ≡ length out₀)
     × Rest at (wrapSeqText wrap seq) out₀ behind (wrapSeqText wrap (drop i seq)) out
@@ -27,33 +19,25 @@ Inv-loop seq wrap out₀ at behind₀ i₀ out behind i =
 abbrev μ-loop : tie.MeasureT-loop
 μ-loop seq wrap out₀ at behind₀ i₀ out behind i = length seq - i
 
--- src/put.rt:69:5
 loop-holds : tie.Need-loop-holds Inv-loop μ-loop
 loop-holds c =
-    
     let a = c .before .before .args in
     (omega arith, refl, rest-all (a .at) (wrapSeqText (a .wrap) (a .seq .now)) (a .out .now))
 
--- src/put.rt:70:13
 line-end-requires : tie.Need-line-end-requires Inv-loop μ-loop
 line-end-requires c κs = omega arith
 
--- src/put.rt:71:26
 sub-put-seq : tie.Need-sub-put-seq Inv-loop μ-loop
 sub-put-seq c = omega arith
 
--- src/put.rt:71:26
 part-put-seq-start : tie.Need-part-put-seq-start Inv-loop μ-loop
 part-put-seq-start c = omega arith
 
--- src/put.rt:71:26
 part-put-seq-end : tie.Need-part-put-seq-end Inv-loop μ-loop
 part-put-seq-end c = omega arith
 
--- src/put.rt:71:9
 put-seq-requires : tie.Need-put-seq-requires Inv-loop μ-loop
 put-seq-requires c κs =
-    
     let E = c .before .before in
     let L = E .before .before in
     let S = L .before .before .before in
@@ -64,38 +48,32 @@ put-seq-requires c κs =
     first-fits (L .loop .behind) (seqText (take (e - i) (drop i (a .seq .now)))) (wrapSeqText (a .wrap) (drop e (a .seq .now))) (L .loop .out)
     (fits-as (L .loop .behind) (L .loop .out) parts (omega (arith, L .loop .inv .2 .place, S .pre .room)))
 
--- src/put.rt:69:5
 loop-less : tie.Need-loop-less Inv-loop μ-loop
 loop-less c =
-    
     let E = c .before .before .before .before .before in
     omega (arith, E .line-end .ensures, E .before .before .before .before .before .pre .wide)
 
--- src/put.rt:69:5
 loop-again : tie.Need-loop-again Inv-loop μ-loop
 loop-again c =
-    
     let D = c .before .before in
     let E = D .before .before .before in
     let L = E .before .before in
     let S = L .before .before .before in
     let a = S .args in
-    let parts = wrap-next (a .wrap) (L .loop .i) (E .line-end .result) (a .seq .now) (S .pre .wide) (omega arith) (E .line-end .ensures) in
-    (omega (arith, E .line-end .ensures),
-     D .put-seq .kept .1 .0 ∙ L .loop .inv .1,
-     rest-next (wrapSeqText (a .wrap) (drop (E .line-end .result) (a .seq .now)))
-     (fits-as (L .loop .behind) (L .loop .out) parts (omega (arith, L .loop .inv .2 .place, S .pre .room)))
-     (rest-as parts (L .loop .inv .2))
-     (D .put-seq .ensures))
+    let parts = wrap-next (a .wrap) (L .loop .i) (E .line-end .result) (a .seq .now) (S .pre .wide) (omega arith) (E .line-end .ensures) in (
+      omega (arith, E .line-end .ensures),
+      D .put-seq .kept .1 .0 ∙ L .loop .inv .1,
+      rest-next (wrapSeqText (a .wrap) (drop (E .line-end .result) (a .seq .now)))
+          (fits-as (L .loop .behind) (L .loop .out) parts (omega (arith, L .loop .inv .2 .place, S .pre .room)))
+          (rest-as parts (L .loop .inv .2))
+          (D .put-seq .ensures),
+    )
 
--- src/put.rt:63:1
 same-length : tie.Need-same-length Inv-loop μ-loop
 same-length c = c .before .loop .inv .1
 
--- src/put.rt:63:1
 returns : tie.Need-returns Inv-loop μ-loop
 returns c =
-    
     let L = c .before in
     let S = L .before .before .before in
     let a = S .args in
