@@ -1,5 +1,6 @@
--- Laws of the writers' texts, of their lengths, and of filling the output with them.
+-- Laws of the writers' texts, of their lengths, and of filling the output with them; and that a promise allows one answer.
 pub mod Wrap
 pub mod Lengths
 pub mod Putting
 pub mod Filling
+pub mod Unique
