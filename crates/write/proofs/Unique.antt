@@ -6,8 +6,17 @@ use mathlib.Core.List.{List}
 use mathlib.Core.Path.{_≡_, refl, sym, ap, _∙_}
 use native.Mathlib.Omega.{arith}
 use Rattle.write.specs.Output.{
-    Left, says, left, WriteHead, WriteIdDesc, WriteSeq, WriteWrapSeq, WriteTo, WriteParts, WriteWrap
-  }
+  Left,
+  says,
+  left,
+  WriteHead,
+  WriteIdDesc,
+  WriteSeq,
+  WriteWrapSeq,
+  WriteTo,
+  WriteParts,
+  WriteWrap,
+}
 use Rattle.write.specs.declared.Wrote.{Wrote}
 use Rattle.write.specs.declared.Wrote.the-variants.{Done, Wrap, Room}
 

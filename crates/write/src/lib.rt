@@ -87,8 +87,8 @@ pub fn write_parts(id: &[u8], with_desc: bool, desc: &[u8], seq: &[u8], out: &mu
     if out.len() < need {
         return Wrote::Room(need);
     }
-    let at = put_id_desc(id, with_desc, desc, out, 0);
-    Wrote::Done(put_seq(seq, out, at))
+    let behind = put_id_desc(id, with_desc, desc, out, 0);
+    Wrote::Done(put_seq(seq, out, behind))
 }
 
 // The same with the sequence in lines of `wrap` bytes.

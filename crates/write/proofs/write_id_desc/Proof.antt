@@ -14,11 +14,10 @@ id-desc-need-requires c κs = search needs
 
 returns : tie.Need-returns
 returns c =
-    let I = c in
-    let S = I .before .before .before .before .before in
+    let S = c .before .before .before .before .before in
     let a = S .args in
     let text = idDescText (a .id .now) (described (a .with-desc) (a .desc .now)) in
-    fill-refused text (a .out .now) (id-desc-length (a .id .now) (a .with-desc) (a .desc .now)) (I .before .id-desc-need .ensures) (omega arith)
+    fill-refused text (a .out .now) (id-desc-length (a .id .now) (a .with-desc) (a .desc .now)) (c .before .id-desc-need .ensures) (omega arith)
 
 put-id-desc-requires : tie.Need-put-id-desc-requires
 put-id-desc-requires c κs =

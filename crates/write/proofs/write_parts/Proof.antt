@@ -22,11 +22,10 @@ plus-requires c κs = search needs
 
 returns : tie.Need-returns
 returns c =
-    let I = c in
-    let S = I .before .before .before .before .before .before .before in
+    let S = c .before .before .before .before .before .before .before in
     let a = S .args in
     let text = partsText (a .id .now) (described (a .with-desc) (a .desc .now)) (a .seq .now) in
-    fill-refused text (a .out .now) (parts-length (a .id .now) (a .with-desc) (a .desc .now) (a .seq .now)) (omega (arith, I .before .plus .ensures, I .before .before .id-desc-need .ensures)) (omega arith)
+    fill-refused text (a .out .now) (parts-length (a .id .now) (a .with-desc) (a .desc .now) (a .seq .now)) (omega (arith, c .before .plus .ensures, c .before .before .id-desc-need .ensures)) (omega arith)
 
 put-id-desc-requires : tie.Need-put-id-desc-requires
 put-id-desc-requires c κs =

@@ -13,8 +13,7 @@ add-need c = search needs
 
 returns : tie.Need-returns
 returns c =
-    let I = c in
-    let S = I .before .before .before in
+    let S = c .before .before .before in
     let a = S .args in
     let text = seqText (a .seq .now) in
     fill-refused text (a .out .now) (seq-length (a .seq .now)) (omega arith) (omega arith)

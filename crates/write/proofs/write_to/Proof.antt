@@ -21,11 +21,10 @@ plus-requires c κs = search needs
 
 returns : tie.Need-returns
 returns c =
-    let I = c in
-    let S = I .before .before .before .before .before in
+    let S = c .before .before .before .before .before in
     let a = S .args in
     let text = toText (a .head .now) (a .seq .now) in
-    fill-refused text (a .out .now) (to-length (a .head .now) (a .seq .now)) (omega (arith, I .before .plus .ensures)) (omega arith)
+    fill-refused text (a .out .now) (to-length (a .head .now) (a .seq .now)) (omega (arith, c .before .plus .ensures)) (omega arith)
 
 put-head-requires : tie.Need-put-head-requires
 put-head-requires c κs =

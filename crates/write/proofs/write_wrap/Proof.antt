@@ -29,13 +29,12 @@ plus-requires c κs = search needs
 
 returns-2 : tie.Need-returns-2
 returns-2 c =
-    let I = c in
-    let W = I .before .before .before .before in
+    let W = c .before .before .before .before in
     let S = W .before .before .before .before .before in
     let a = S .args in
     let text = wrapText (a .id .now) (described (a .with-desc) (a .desc .now)) (a .seq .now) (a .wrap) in
     let wide : 0 < a .wrap = omega (arith, W .if1 .left) in
-    fill-refused text (a .out .now) (wrap-text-length (a .id .now) (a .with-desc) (a .desc .now) (a .seq .now) (a .wrap) wide) (omega (arith, I .before .plus .ensures, I .before .before .wrap-seq-need .ensures, I .before .before .before .id-desc-need .ensures)) (omega arith) ∙ sym (wrap-fill (a .wrap) text (a .out .now) wide)
+    fill-refused text (a .out .now) (wrap-text-length (a .id .now) (a .with-desc) (a .desc .now) (a .seq .now) (a .wrap) wide) (omega (arith, c .before .plus .ensures, c .before .before .wrap-seq-need .ensures, c .before .before .before .id-desc-need .ensures)) (omega arith) ∙ sym (wrap-fill (a .wrap) text (a .out .now) wide)
 
 put-id-desc-requires : tie.Need-put-id-desc-requires
 put-id-desc-requires c κs =

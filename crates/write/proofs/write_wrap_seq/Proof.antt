@@ -21,13 +21,12 @@ wrap-seq-need-requires c κs = search needs
 
 returns-2 : tie.Need-returns-2
 returns-2 c =
-    let I = c in
-    let W = I .before .before in
+    let W = c .before .before in
     let S = W .before .before .before in
     let a = S .args in
     let text = wrapSeqText (a .wrap) (a .seq .now) in
     let wide : 0 < a .wrap = omega (arith, W .if1 .left) in
-    fill-refused text (a .out .now) (wrap-length (a .wrap) (a .seq .now) wide) (I .before .wrap-seq-need .ensures) (omega arith) ∙ sym (wrap-fill (a .wrap) text (a .out .now) wide)
+    fill-refused text (a .out .now) (wrap-length (a .wrap) (a .seq .now) wide) (c .before .wrap-seq-need .ensures) (omega arith) ∙ sym (wrap-fill (a .wrap) text (a .out .now) wide)
 
 put-wrap-seq-requires : tie.Need-put-wrap-seq-requires
 put-wrap-seq-requires c κs =
