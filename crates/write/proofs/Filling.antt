@@ -1,17 +1,15 @@
 -- Filling the output: by the need, either there is room for the text, and putting it at the front fills the output, or it is refused.
 -- Assumes nothing.
-use Prim.Native.Nat.{ℕ, _+_, _-_, _^_, _≤_, _<_, min}
+use Prim.Native.Nat.{ℕ, _≤_, _<_}
 use native.Mathlib.Omega.{arith}
 use native.Mathlib.Nat.{zero-add}
-use mathlib.Core.Path.{_≡_, refl, sym, ap, _∙_}
-use mathlib.Core.Bool.{cond, true, false}
+use mathlib.Core.Path.{_≡_, sym, ap, _∙_}
 use mathlib.Core.List.{List, [], _∷_, _++_}
 use lib.ListN.{length, drop}
 use borrow.Author.Tests.{le-leb, lt-leb, eq-eqb, ne-eqb}
 use Rattle.scan.proofs.Paste.{pasted-room}
-use Rattle.write.specs.Need.{cut}
 use Rattle.write.specs.Put.{Fits, Put}
-use Rattle.write.specs.Output.{Left, Answer, wrote, refuses, need, filled, wrapped, left}
+use Rattle.write.specs.Output.{wrote, refuses, cut, need, filled, wrapped, left}
 use Rattle.write.specs.declared.Wrote.the-variants.{Done, Wrap, Room}
 
 pub fill-refused : {k n : ℕ} (text out : List ℕ) → length text ≡ k → n ≡ cut k → length out < n → left (Room n) out ≡ filled text out

@@ -1,8 +1,8 @@
 -- Laws of `wrapSeqText`: its two clauses, and an induction that goes from one cut to the next. The steps of `cutIn` are enough, since
 -- each cut takes a byte at least. Assumes nothing.
-use Prim.Native.Nat.{ℕ, zero, suc, _+_, _-_, _≤_, _<_}
+use Prim.Native.Nat.{ℕ, zero, suc, _≤_, _<_}
 use native.Mathlib.Omega.{arith}
-use mathlib.Core.Path.{_≡_, refl, sym, ap, _∙_}
+use mathlib.Core.Path.{_≡_, refl, ap}
 use mathlib.Core.List.{List, [], _∷_, _++_}
 use lib.ListN.{length, take, drop, length-drop}
 use mathlib.Core.Bool.{cond}

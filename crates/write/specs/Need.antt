@@ -1,10 +1,6 @@
--- The needs by numbers: what a writer's private parts compute. Assumes nothing.
-use Prim.Native.Nat.{ℕ, _+_, _-_, _/_, _^_, min}
+-- The lengths of texts by numbers: what a description adds, and how many lines there are. Assumes nothing.
+use Prim.Native.Nat.{ℕ, _+_, _-_, _/_}
 use mathlib.Core.Bool.{Bool, true, false}
-
--- a length, or 2^64 - 1 if it is more
-abbrev pub cut : ℕ → ℕ
-cut n = min n (2 ^ 64 - 1)
 
 -- what a description of `n` bytes adds to an id: its length and that of the space
 abbrev pub descLen : Bool → (n : ℕ) → ℕ

@@ -4,9 +4,9 @@ use Prim.Native.Nat.{ℕ, _-_, _^_, min}
 use mathlib.Core.Bool.{Bool, true, false, cond}
 use mathlib.Core.List.{List, [], _∷_, _++_}
 use mathlib.Core.Option.{Option, none, some}
+use mathlib.Core.Path.{_≡_}
 use lib.ListN.{length, drop}
 use lib.Dec.{eqb, leb}
-use mathlib.Core.Path.{_≡_}
 use Rattle.write.specs.Text.{headText, idDescText, seqText, wrapSeqText, toText, partsText, wrapText}
 use Rattle.write.specs.declared.Wrote.{Wrote}
 use Rattle.write.specs.declared.Wrote.the-variants.{Done, Wrap, Room}
@@ -21,9 +21,13 @@ pub record Left : Type 0 where
   pub answer : Answer
   pub out : List ℕ
 
+-- a length, or 2^64 - 1 if it is more
+abbrev pub cut : ℕ → ℕ
+cut n = min n (2 ^ 64 - 1)
+
 -- the need of refusal 9: the text's length, or 2^64 - 1 if it is more
 unfoldable pub need : (text : List ℕ) → ℕ
-need text = min (length text) (2 ^ 64 - 1)
+need text = cut (length text)
 
 -- the text at the front and the rest as it was, or refusal 9
 unfoldable pub filled : (text out : List ℕ) → Left

@@ -1,7 +1,8 @@
 // The needs of refusal 9 by the lengths of what is written: the text's length, or 2^64 - 1 if it is more.
 ghost use mathlib.Core.Path.{_≡_};
 ghost use Prim.Native.Nat.{_+_, _<_};
-ghost use Rattle.write.specs.Need.{cut, descLen, lineCount};
+ghost use Rattle.write.specs.Need.{descLen, lineCount};
+ghost use Rattle.write.specs.Output.{cut};
 
 // The sum, or 2^64 - 1 if it is more.
 pub(crate) fn plus(a: usize, b: usize) -> usize
