@@ -3,7 +3,7 @@ use Prim.Native.Nat.{ℕ}
 use mathlib.Core.List.{List}
 use mathlib.Core.Path.{_≡_, sym, _∙_}
 use Rattle.scan.specs.Scan.{LineEnd, TrimCr}
-use Rattle.scan.specs.Move.{MoveDown, MoveEnds}
+use Rattle.scan.specs.Move.{MoveDown, MoveEnds, Copy}
 
 same-as : {A : Type 0} {x r s : A} → r ≡ x → s ≡ x → r ≡ s
 same-as e f = e ∙ sym f
@@ -27,3 +27,10 @@ pub move-ends-unique :
     MoveEnds count by ends s →
     r ≡ s
 move-ends-unique count by ends r s = same-as
+
+pub copy-unique :
+    (at : ℕ) (src out r s : List ℕ) →
+    Copy at src out r →
+    Copy at src out s →
+    r ≡ s
+copy-unique at src out r s = same-as

@@ -2,8 +2,10 @@
 // definition says what happens outside them.
 mod line;
 mod moves;
+mod parts;
 
 pub use line::line_end;
 pub use line::trim_cr;
 pub use moves::move_down;
 pub use moves::move_ends;
+pub use parts::copy;

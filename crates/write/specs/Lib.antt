@@ -3,3 +3,5 @@ pub mod Text
 pub mod Output
 pub mod Listing
 pub mod ReadBack
+pub mod Need
+pub mod Put
