@@ -4,10 +4,10 @@ use native.Mathlib.Nat.{add-div-right, div-eq-of-lt}
 use native.Mathlib.Decide.{decLe}
 use native.Mathlib.Omega.{arith}
 use mathlib.Core.Path.{_≡_, sym, ap, _∙_}
-use mathlib.Core.Bool.{Bool, true, false}
+use mathlib.Core.Bool.{Bool, true, false, cond}
 use mathlib.Core.List.{List, [], _∷_, _++_}
 use lib.ListN.{length, take, drop, length-append, length-take, length-drop}
-use Rattle.write.specs.Text.{headText, idDescText, seqText, wrapSeqText, toText, partsText, wrapText}
+use Rattle.write.specs.Text.{headText, idDescText, seqText, wrapSeqText, toText, partsText, wrapText, endsIn, unchangedText}
 use Rattle.write.specs.Output.{described}
 use Rattle.write.specs.Need.{descLen, lineCount}
 use Rattle.write.proofs.Wrap.{wrap-none, wrap-line, by-lines}
@@ -63,3 +63,12 @@ parts-length id with desc seq = omega (arith, length-append (idDescText id (desc
 pub wrap-text-length : (id : List ℕ) (with : Bool) (desc seq : List ℕ) (wrap : ℕ) → 0 < wrap → length (wrapText id (described with desc) seq wrap) ≡ length id + descLen with (length desc) + 2 + (length seq + lineCount wrap (length seq))
 wrap-text-length id with desc seq wrap w =
     omega (arith, length-append (idDescText id (described with desc)) (wrapSeqText wrap seq), id-desc-length id with desc, wrap-length wrap seq w)
+
+-- write_unchanged: the copy, and 1 unless it ends in `\n`
+pub unchanged-length : (copy : List ℕ) → length (unchangedText copy) ≡ length copy + cond (endsIn 10 copy) 0 1
+unfolding unchangedText
+unchanged-length copy = go (endsIn 10 copy)
+  where
+    go : (t : Bool) → length (cond t copy (copy ++ (10 ∷ []))) ≡ length copy + cond t 0 1
+    go true = omega arith
+    go false = length-append copy (10 ∷ [])

@@ -1,5 +1,5 @@
 -- Reading back (01): "Reading back what is written gives head and joined sequence again if the head has no `\n` and no final `\r`, and the
--- sequence no `\n`, `\r` or `>`." The conditions and the claim; proofs/ReadBack.antt proves it of every writer of a whole record.
+-- sequence no `\n`, `\r` or `>`." The conditions and the claim; proofs/ReadBack.antt proves it of the writers of a head and a sequence.
 -- Assumes nothing.
 use Prim.Native.Nat.{ℕ}
 use mathlib.Core.List.{List, [], _∷_, _++_}
