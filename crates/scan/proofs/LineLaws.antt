@@ -37,6 +37,13 @@ trim-other (x ∷ []) (suc n) e h = absurd (omega arith)
 trim-other (x ∷ y ∷ r) zero e h = absurd (omega arith)
 trim-other (x ∷ y ∷ r) (suc n) e h = ap (λ (l : List ℕ). x ∷ l) (trim-other (y ∷ r) n (omega arith) h)
 
+-- the last byte, and the first two of several
+pub one : (s : List ℕ) (i : ℕ) → i + 1 ≡ length s → drop i s ≡ getD s i 0 ∷ []
+one s i h = drop-cons s i 0 (omega arith) ∙ ap (λ (l : List ℕ). getD s i 0 ∷ l) (drop-of-length-le s {i = suc i} (omega arith))
+
+pub two : (s : List ℕ) (i : ℕ) → i + 1 < length s → drop i s ≡ getD s i 0 ∷ (getD s (i + 1) 0 ∷ drop (suc (i + 1)) s)
+two s i h = drop-cons s i 0 (omega arith) ∙ ap (λ (l : List ℕ). getD s i 0 ∷ l) (rw (← add-one i) (drop-cons s (i + 1) 0 h))
+
 module _ (s : List ℕ) where
   -- behind the bytes the end is their length
   pub line-end-past : (i : ℕ) → length s ≤ i → lineEnd s i ≡ length s
@@ -67,7 +74,7 @@ module _ (s : List ℕ) where
       omega (arith, line-end-in i (omega arith), line-end-in (i + 1) (omega arith))
 
   -- what holds behind the bytes and at a `\n`, and at any other place if it holds at the next, holds everywhere
-  along :
+  pub along :
       (P : ℕ → Type 0) →
       ((i : ℕ) → length s ≤ i → P i) →
       ((i : ℕ) → i < length s → getD s i 0 ≡ 10 → P i) →

@@ -1,5 +1,7 @@
-// Lines in bytes: where one ends, and what of it is shown.
+// Lines in bytes: where one ends, what of it is shown, and the blank ones that lead an input.
+ghost use mathlib.Core.Path.{_≡_};
 ghost use Rattle.scan.specs.Scan.{TrimCr, LineEnd};
+ghost use Rattle.scan.specs.Search.{Lead, blank};
 
 // A line without its trailing `\r`, if it has one: the line itself or the part before that `\r`.
 pub fn trim_cr<'a>(line: &'a [u8]) -> &'a [u8]
@@ -28,4 +30,49 @@ pub fn line_end(bytes: &[u8], from: usize) -> usize
         i += 1;
     }
     bytes.len()
+}
+
+// The blank lines from a place on: how many, and where the next line begins. `undecided`: of that line nothing or a lone `\r` is there, so that
+// it may yet be blank.
+pub struct Blank {
+    pub at: usize,
+    pub lines: usize,
+    pub undecided: bool,
+}
+
+pub fn lead(bytes: &[u8], from: usize) -> Blank
+    ensures { λ r. ⌜ Lead (now (bytes .entry)) from r ⌝ }
+{
+    let mut i = from;
+    let mut n = 0;
+    while i < bytes.len() {
+        let x = bytes[i];
+        if x == b'\n' {
+            i += 1;
+        } else {
+            if x != b'\r' {
+                return next_line(i, n, false);
+            }
+            let next = i + 1;
+            if next == bytes.len() {
+                return next_line(i, n, true);
+            }
+            if bytes[next] != b'\n' {
+                return next_line(i, n, false);
+            }
+            i = next + 1;
+        }
+        n += 1;
+    }
+    next_line(i, n, true)
+}
+
+fn next_line(at: usize, lines: usize, undecided: bool) -> Blank
+    ensures { λ r. ⌜ r ≡ blank at lines undecided ⌝ }
+{
+    Blank {
+        at,
+        lines,
+        undecided,
+    }
 }
