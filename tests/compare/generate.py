@@ -11,12 +11,17 @@ import collections
 import itertools
 import random
 
+import meaning
 import model
 
 PLENTY = 400  # more room than any record of a plan needs
 ALPHABET = b">\n\r A"
 
 Plan = collections.namedtuple("Plan", "kind setup input cuts calls")
+
+
+class Corner(Exception):
+    """An altered reader came to a state of which 01 does not say what follows: the script ends before that call."""
 
 
 class Case:
@@ -36,14 +41,22 @@ class Case:
         self.empty_seek = False  # a seek emptied the window, and nothing was read since
         self.same_window = True  # the Rust's window holds the same bytes: no two such seeks together
         self.asks = 0
+        # What the input means from here on, while nobody altered the reader; `faults` are the model's answers that disagree.
+        self.due = None if plant else meaning.from_start(plan.setup, plan.input)
+        self.record_lines, self.faults = None, []
         if self.reader is not None:
-            for name, *operands in plan.calls:
-                getattr(self, name)(*operands)
+            try:
+                for name, *operands in plan.calls:
+                    getattr(self, name)(*operands)
+            except Corner:
+                pass
 
     # One call of the script
 
     def call(self, *call):
         line = self.session.call(*call)
+        if self.reader.corner:
+            raise Corner
         self.calls.append(call)
         self.lines.append(line)
         return line
@@ -66,6 +79,7 @@ class Case:
         """Calls until the answer is no ask, bringing input up to the next cut each time. With `pester`, every so many asks are met by
         repeated calls, a position and reports that are refused."""
         line = self.call(*call)
+        reports, left = 0, None
         while line.startswith("ask"):
             _, _, room, offset = map(int, ("0" + line[3:]).split())
             self.asks += 1
@@ -78,8 +92,35 @@ class Case:
             after = bisect.bisect_right(cuts, offset)
             stop = min(cuts[after:after + 1] + (len(self.plan.input),))
             self.call(2, max(0, min(room, stop - offset)))
+            # "hears something other than an ask within (input bytes left) + 1 reports"
+            reports, left = reports + 1, max(0, len(self.plan.input) - offset) if left is None else left
+            self.expect(reports <= left + 1, "ask")
             line = self.call(*call)
         return line
+
+    def expect(self, fine, what):
+        if not fine:
+            self.faults.append((self.calls[-1], what, self.lines[-1]))
+
+    def expect_read(self, line):
+        """A read's answer against the meaning of the input."""
+        if self.due:
+            due, self.record_lines = next(self.due)
+            self.expect(line == due, due)
+
+    def expect_set(self, line):
+        """A set's records are the next ones that single reads would have given; another answer is the one a read would have heard."""
+        if self.due and line == "refused 12":
+            due, lines = next(self.due)
+            self.due = itertools.chain([(due, lines)], self.due)
+            self.expect(due.startswith("record"), due)
+        elif self.due and line.startswith("set"):
+            for number, (_, ends, at, byte) in enumerate(self.session.set.records):
+                due, _ = next(self.due)
+                self.expect(due == "record %d %d %d" % (at, byte, len(ends) - 1), "record %d: %s" % (number, due))
+        else:
+            self.expect_read(line)
+        self.record_lines = None
 
     def answered(self, call, line):
         """What an answer of a read or set says of the comparison with the Rust."""
@@ -104,6 +145,7 @@ class Case:
 
     def read(self, pester=0):
         line = self.serve((1,), pester)
+        self.expect_read(line)
         self.answered((1,), line)
         return line
 
@@ -115,6 +157,7 @@ class Case:
             self.call(*call)
             return
         line = self.serve(call, pester)
+        self.expect_set(line)
         if not self.same_window or self.reader.cut_short:
             self.inside = False
         self.answered(call, line)
@@ -124,10 +167,11 @@ class Case:
             self.position_known = self.reader.phase == model.FINISHED and not self.reader.lead_dropped
 
     def seek(self, line, byte):
-        before = self.reader.offset, self.reader.filled
         answer = self.call(3, line, byte)
         if answer != "ok":
             return
+        if self.due:
+            self.due, self.record_lines = meaning.from_mark(self.plan.setup, self.plan.input, line, byte), None
         emptied = self.reader.filled == 0
         if self.empty_seek:
             self.same_window = False
@@ -145,7 +189,10 @@ class Case:
     # Looking
 
     def position(self):
-        self.both((4,), self.position_known)
+        line = self.both((4,), self.position_known)
+        if not self.position_known and not self.reader.lead_dropped:
+            # After a set or a buffer refusal the Rust may say none; what else it says must be right.
+            self.rust((4,), "none or", *line.split())
 
     def current(self):
         return self.reader.phase == model.GIVEN
@@ -156,10 +203,15 @@ class Case:
     def views(self):
         """Every view of the current record, one line number past the last too."""
         if self.current():
+            lines = self.record_lines
             for what in (0, 1, 2, 3, 5):
                 self.view(what)
+                if lines and what == 0:
+                    self.expect(self.lines[-1] == "part " + model.hexed(meaning.shown(lines[0][1:])), "head")
             for number in range(self.reader.count):
                 self.view(4, number)
+                if lines and number + 1 < len(lines):
+                    self.expect(self.lines[-1] == "part " + model.hexed(meaning.shown(lines[number + 1])), "line")
 
     def writer(self, what, width=1, room=PLENTY):
         self.both((7, what, width, room), self.current() and not (what == 1 and width == 0))
@@ -216,7 +268,7 @@ class Case:
         """One call as it stands, with no refill: the Rust cannot stop inside a read."""
         line = self.call(*call)
         if call[0] in (1, 2, 3, 5, 14, 15):
-            self.inside = False
+            self.inside, self.due = False, None
         return line
 
     def report(self, count):
@@ -242,35 +294,31 @@ class Case:
 def compositions(length):
     """Every way to cut `length` bytes into refills."""
     inner = range(1, length)
-    for size in range(length):
+    for size in range(max(1, length)):
         yield from itertools.combinations(inner, size)
 
 
-def windows(capacity):
-    """The window is the capacity, or one, two or three growths above it, or one byte short of a growth."""
-    return capacity, 2 * capacity - 1, 2 * capacity, 4 * capacity
-
-
 def exhaustive(longest=6):
-    """Inputs of up to `longest` bytes. Up to 4 bytes with every cutting; from 6 bytes on with the setups in turn and not all of them."""
+    """Every input of up to `longest` bytes: up to 4 bytes with every cutting, then with one cutting in turn; and read by sets."""
     turn = 0
     for length in range(longest + 1):
-        setups = [(capacity, 0, 0, 0, window, slots) for capacity in (3, 4, 5) for window in windows(capacity) for slots in (1, 2, 3, 4)]
+        # The window is the capacity, one byte short of a growth, one growth, or two growths.
+        sizes = (1, 2, 4) if length > 4 else (1, 2, 4, None)
+        setups = [(capacity, 0, 0, 0, capacity * size if size else 2 * capacity - 1, slots)
+                  for capacity in (3, 4, 5) for size in sizes for slots in (1, 2, 3, 4)]
         for letters in itertools.product(ALPHABET, repeat=length):
             data = bytes(letters)
             turn += 1
-            if length < 5:
+            for setup in setups:
+                if length > 4:
+                    turn += 1
+                    cuts = tuple(range(1 + turn % 4, length, 1 + turn % 3))
+                    yield Plan("5 and 6 bytes, one cutting", setup, data, cuts, [("all",), ("capacity",)])
+                    continue
                 for cuts in compositions(length):
-                    for setup in setups[turn % 2::2] if length == 4 else setups:
-                        yield Plan("short, every cutting", setup, data, cuts, [("all",)])
-            else:
-                step = 4 if length == 5 else 8
-                for number, setup in enumerate(setups[turn % step::step]):
-                    cuts = tuple(range(1 + (turn + number) % 3, length, 1 + number % 3))
-                    yield Plan("short, setups in turn", setup, data, cuts, [("all",), ("capacity",)])
-            slots = 1 + turn % 6
+                    yield Plan("up to 4 bytes, every cutting", setup, data, cuts, [("all",)])
             capacity = 3 + turn % 3
-            yield Plan("short, by sets", (capacity, 0, 0, 0, 4 * capacity, slots), data, (1 + turn % 4,), [("all_sets",)])
+            yield Plan("up to 6 bytes, by sets", (capacity, 0, 0, 0, 4 * capacity, 1 + turn % 6), data, (1 + turn % 4,), [("all_sets",)])
 
 
 # ---------------------------------------------------------------------------------------------------------------------------------------
@@ -394,18 +442,34 @@ def random_plans(count, seed):
 # Readers altered by hand, and calls inside a read: the port and the model alone
 
 def altered_plans(count, seed):
+    """One or two numbers of a reader altered after some reads, then every call: most are refused with 11, some go on from what stands there."""
     for number in range(count):
         rng = random.Random(seed * 1_000_003 + number)
         setup = random_setup(rng)
         if setup[0] < 3 or setup[0] > setup[4] or setup[5] == 0:
             continue
-        data = random_input(rng, setup[0])
-        calls = [("read", rng.choice((0, 1)))] * rng.randrange(3)
+        data = b">" + random_input(rng, setup[0])
+        cuts = tuple(range(rng.randint(1, 9), len(data), rng.randint(1, 40)))
+        calls = [("read", rng.choice((0, 1)))] * rng.randint(1, 3)
         if rng.random() < 0.3:
             calls.append(("raw", 1))
-        # Values that 11 refuses wherever they are put.
-        field, value = rng.choice(((0, 2), (0, setup[4] + 1), (1, setup[4] + 1), (1, 1 << 63), (2, setup[4] + 1), (3, setup[4] + 1),
-                                   (4, setup[5] + 1), (4, (1 << 64) - 1), (5, 0), (5, 1 << 40), (6, (1 << 62) + 1), (6, (1 << 64) - 1)))
-        calls.append(("raw", 14, field, value))
-        calls += [("raw", *call) for call in ((1,), (2, 1), (3, 1, 0), (4,), (5, setup[4], 4, 64), (6, 0, 0, PLENTY), (7, 2, 1, PLENTY))]
-        yield Plan("altered", setup, data, (), calls)
+        calls += [("raw", *random_alteration(rng, setup)) for _ in range(rng.randint(1, 2))]
+        looks = [("raw", 4), ("raw", 10), *(("raw", 6, what, 0, PLENTY) for what in range(6)), ("raw", 6, 4, 1, PLENTY),
+                 *(("raw", 7, what, rng.randrange(4), PLENTY) for what in range(3))]
+        calls += looks
+        calls += rng.choice(([("raw", 1)], [("raw", 2, rng.randrange(4))], [("raw", 3, 1, 0)],
+                             [("raw", 5, setup[4], 4, 64), ("raw", 8, 0, 5, 0, PLENTY)], []))
+        calls += [("raw", 4), ("read",), *looks, ("read",)]
+        yield Plan("altered", setup, data, cuts, calls)
+
+
+def random_alteration(rng, setup):
+    """A small value, which may stand, or one that 11 refuses wherever it is put."""
+    if rng.random() < 0.25:
+        return 14, *rng.choice(((0, 2), (0, setup[4] + 1), (1, setup[4] + 1), (1, 1 << 63), (2, setup[4] + 1), (3, setup[4] + 1),
+                                (4, setup[5] + 1), (4, (1 << 64) - 1), (5, 0), (5, 1 << 40), (6, (1 << 62) + 1), (6, (1 << 64) - 1)))
+    if rng.random() < 0.3:
+        return 15, rng.randrange(3), rng.choice((0, rng.randrange(20), setup[4], (1 << 64) - 1))
+    return 14, *rng.choice(((0, rng.randint(3, setup[4])), (1, rng.randrange(setup[4] + 1)), (2, rng.randrange(12)), (3, rng.randrange(20)),
+                            (4, rng.randrange(4)), (5, rng.randrange(1, 9)), (6, rng.choice((0, 5, 1 << 62, (1 << 62) - 9))),
+                            (7, rng.randrange(2)), (8, rng.randrange(2))))

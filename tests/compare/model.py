@@ -14,7 +14,7 @@ import sys
 FARTHEST = 1 << 62
 MIN_CAPACITY = 3
 LONGEST_WINDOW = 1 << 31
-NEWLINE, RETURN, SPACE, MARK = 10, 13, 32, 62
+NEWLINE, MARK = 10, 62
 PLANTS = ("search", "trim", "growth")
 
 # The operands of each call, behind its byte.
@@ -164,7 +164,7 @@ def put(text, room):
 # The reader
 
 # What a reader is about to do. LEAD: nothing read yet. SOUGHT: a `>` must stand at start. NEXT: the record at start is to be found, or found
-# further. GIVEN: it is current. LASTING: each read repeats `refusal`. FINISHED: the end.
+# further. GIVEN: it is current. LASTING: each read repeats the refusal of that number. FINISHED: the end.
 LEAD, SOUGHT, NEXT, GIVEN, LASTING, FINISHED = range(6)
 
 
@@ -210,6 +210,7 @@ class Reader:
         # What the generator wants to know besides the answers.
         self.lead_dropped = False  # blank lead was dropped before the first record
         self.cut_short = False  # the last set ended at a table's limit
+        self.corner = False  # an altered state in which a closing end would not rise: 01 leaves it open what follows
 
     # Refusal 11 -----------------------------------------------------------------------------------------------------------------------
 
@@ -228,6 +229,12 @@ class Reader:
         if not ok:
             raise Refused(11)
 
+    def check_read(self):
+        """11 for a read or set: one that searches an unfinished record further uses all the ends recorded so far."""
+        self.check()
+        if self.phase == NEXT and not self.ask_open and self.ready():
+            self.record().uses(*self.table[:self.count])
+
     def record(self):
         return Record(self.window, self.start, self.table[:self.count], self.filled, self.plant)
 
@@ -235,20 +242,20 @@ class Reader:
 
     def next(self):
         """A read: the line of its answer."""
-        self.check()
+        self.check_read()
         self.find()
         self.phase, self.shown = GIVEN, True
         return "record %d %d %d" % (self.line, self.offset + self.start, self.count - 1)
 
     def find(self):
         """Comes back with the next record whole at start, or raises what is due instead."""
-        if self.phase == LASTING and self.refusal.args[0] in (3, 4):
-            raise self.refusal
+        if self.phase == LASTING and self.refusal in (3, 4):
+            raise self.refuse_record(self.refusal)
         # "A read call without a report repeats the same ask and changes nothing."
         if self.ask_open:
             raise self.ask()
         if self.phase == LASTING:
-            raise self.refusal
+            raise Refused(self.refusal)
         if self.phase == FINISHED:
             raise Ends()
         if self.phase == GIVEN:
@@ -256,9 +263,6 @@ class Reader:
             if self.told and self.search == self.filled:
                 self.phase = FINISHED
                 raise Ends()
-        else:
-            self.check_ends()
-        if self.phase == GIVEN:
             self.pass_record()
         # "A record is searched only when the window is filled to its capacity or the end was told. Otherwise the call answers an ask."
         if not self.ready():
@@ -268,16 +272,12 @@ class Reader:
         if self.phase == SOUGHT:
             # "Read after a seek: no `>` there, or the end (lasting)"
             if self.start >= self.filled or self.window[self.start] != MARK:
-                raise self.lasting(Refused(5), shown=False)
+                self.phase, self.refusal, self.shown = LASTING, 5, False
+                raise Refused(5)
         self.phase = NEXT
         if not self.look():
             self.make_room()
             raise self.new_ask()
-
-    def check_ends(self):
-        """A call that searches an unfinished record uses all the ends recorded so far."""
-        if self.phase == NEXT and self.ready():
-            self.record().uses(*self.table[:self.count])
 
     def ready(self):
         return self.told or self.filled == self.capacity
@@ -291,13 +291,10 @@ class Reader:
         self.ask_open, self.shown = True, False
         return self.ask()
 
-    def lasting(self, refusal, shown):
-        """ "Lasting: each read repeats it and changes nothing." """
-        self.phase, self.refusal, self.shown = LASTING, refusal, shown
-        return refusal
-
     def refuse_record(self, number):
-        return self.lasting(Refused(number, self.line, self.offset + self.start), shown=True)
+        """3 or 4, of the record at start. "Lasting: each read repeats it and changes nothing." """
+        self.phase, self.refusal, self.shown = LASTING, number, True
+        return Refused(number, self.line, self.offset + self.start)
 
     def pass_record(self):
         """The next record starts where the search of this one ended, one line on for each end."""
@@ -349,6 +346,7 @@ class Reader:
             self.search = end if end >= 0 else self.filled
             if self.count == len(self.table):
                 raise self.refuse_record(4)
+            self.corner = self.corner or self.search <= max([self.start, *self.table[:self.count]])
             # "A final `\n` adds no line": the end of input and a final `\n` give one end between them.
             self.table[self.count] = self.search
             self.count += 1
@@ -417,9 +415,7 @@ class Reader:
     def next_set(self, into, room, records, ends):
         """Fills `into`: "every record from the current place that is whole in the window, fits the set's tables and meets no refusal; at
         least one". An ask, the end and every refusal but 11 leave it with count 0."""
-        self.check()
-        if self.phase != GIVEN and not self.ask_open:
-            self.check_ends()
+        self.check_read()
         into.records = []
         self.cut_short = False
         # "in a set call its byte length, then 2 to 5, then its tables"

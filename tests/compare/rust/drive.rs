@@ -274,6 +274,8 @@ pub fn main() {
     io::stdin().read_to_end(&mut data).unwrap();
     let mut script = Script { data: &data };
     let mut out = io::BufWriter::new(io::stdout());
+    // One set for the whole run, as a program has it. No compared answer shows what an earlier script left in it.
+    let mut set = RecordSet::default();
     while !script.data.is_empty() {
         assert_eq!(script.u32(), 6);
         let [capacity, kind, n, limit, window, _slots] = std::array::from_fn(|_| script.u64());
@@ -282,7 +284,7 @@ pub fn main() {
         let policy = || Bounded { kind, n: n as usize, limit: limit as usize, window: window as usize, growths: 0 };
         let pieces = Pieces { input, at: 0, turn: length % 7 };
         let reader = Reader::with_capacity(pieces, capacity as usize).set_policy(policy());
-        let mut session = Session { reader, policy: policy(), set: RecordSet::default(), current: None };
+        let mut session = Session { reader, policy: policy(), set: std::mem::take(&mut set), current: None };
         writeln!(out, "made").unwrap();
         let mut alive = true;
         for _ in 0..script.u32() {
@@ -297,6 +299,7 @@ pub fn main() {
                 }
             }
         }
+        set = session.set;
         writeln!(out, "done").unwrap();
     }
 }
