@@ -50,6 +50,8 @@ class Case:
                     getattr(self, name)(*operands)
             except Corner:
                 pass
+        else:
+            self.calls = [(1,), (4,)]  # passed over
 
     # One call of the script
 
@@ -436,6 +438,30 @@ def random_plans(count, seed):
         often = rng.choice((0, 0.05, 0.3, 1))
         cuts = tuple(at for at in range(1, len(data)) if rng.random() < often)
         yield Plan("random", setup, data, cuts, random_calls(rng, data, setup[0]))
+
+
+# ---------------------------------------------------------------------------------------------------------------------------------------
+# Long inputs
+
+def long_plans(count, seed):
+    """Inputs of up to 100,000 bytes with records about the size of the largest window that a script may have."""
+    for number in range(count):
+        rng = random.Random(seed * 1_000_003 + number)
+        capacity = rng.choice((256, 1000, 4096, 65535, 65536))
+        window = rng.choice((65535, 65536))
+        setup = min(capacity, window), rng.randrange(3), rng.choice((500, 4096, 1 << 20)), rng.choice((40000, 65536)), window, rng.choice((600, 4096))
+        data = bytearray(rng.choice((b"", b"\n\r\n", b"\n" * rng.choice((255, 256, 257, 4096)))))
+        while len(data) < 30000:
+            need = rng.choice((10, 300, 1000, 4095, 20000, 65532)) + rng.randint(0, 4)
+            width = rng.choice((60, 61, 80, need))
+            record = bytearray(b">" + random_line(rng, rng.choice((3, 40))).replace(b"\r", b"") + b"\n")
+            while len(record) < need:
+                record += bytes([rng.choice(b"ACGT")]) * min(width, need - len(record) - 1) + b"\n"
+            data += record
+        cuts = tuple(sorted(rng.randrange(1, len(data)) for _ in range(rng.choice((0, 3, 30)))))
+        way = rng.choice(([("all",), ("seek_back", 0), ("read",), ("writer", 1, 70, 65536)], [("all_sets",), ("seek_back", 1), ("read",)],
+                          [("read",), ("writer", 2, 0, 65536), ("set",), ("set_writer", 0, 0, 1, 65536), ("seek_back", 0), ("read",), ("capacity",)]))
+        yield Plan("up to 100,000 bytes", setup, bytes(data), cuts, way)
 
 
 # ---------------------------------------------------------------------------------------------------------------------------------------
