@@ -41,9 +41,9 @@ class Case:
         self.empty_seek = False  # a seek emptied the window, and nothing was read since
         self.same_window = True  # the Rust's window holds the same bytes: no two such seeks together
         self.asks = 0
-        # What the input means from here on, while nobody altered the reader; `faults` are the model's answers that disagree.
-        self.due = None if plant else meaning.from_start(plan.setup, plan.input)
-        self.record_lines, self.faults = None, []
+        # What the input means, while nobody altered the reader; `faults` are the model's answers that disagree.
+        self.history = None if plant else meaning.History(plan.setup, plan.input)
+        self.faults = []
         if self.reader is not None:
             try:
                 for name, *operands in plan.calls:
@@ -85,9 +85,11 @@ class Case:
         while line.startswith("ask"):
             _, _, room, offset = map(int, ("0" + line[3:]).split())
             self.asks += 1
+            if self.history:
+                self.history.asked()
             if pester and self.asks % pester == 0:
                 self.call(*call)
-                self.call(4)
+                self.position(compared=False)
                 self.call(2, room + 1 + self.asks % 3)
                 self.call(6, 0, 0, 0)
             cuts = self.plan.cuts
@@ -104,25 +106,13 @@ class Case:
         if not fine:
             self.faults.append((self.calls[-1], what, self.lines[-1]))
 
-    def expect_read(self, line):
-        """A read's answer against the meaning of the input."""
-        if self.due:
-            due, self.record_lines = next(self.due)
-            self.expect(line == due, due)
-
-    def expect_set(self, line):
-        """A set's records are the next ones that single reads would have given; another answer is the one a read would have heard."""
-        if self.due and line == "refused 12":
-            due, lines = next(self.due)
-            self.due = itertools.chain([(due, lines)], self.due)
-            self.expect(due.startswith("record"), due)
-        elif self.due and line.startswith("set"):
-            for number, (_, ends, at, byte) in enumerate(self.session.set.records):
-                due, _ = next(self.due)
-                self.expect(due == "record %d %d %d" % (at, byte, len(ends) - 1), "record %d: %s" % (number, due))
-        else:
-            self.expect_read(line)
-        self.record_lines = None
+    def expect_set(self, line, records, ends):
+        if self.history:
+            reach = self.reader.offset + self.reader.filled
+            due, instead = self.history.set(records, ends, reach, self.reader.told)
+            given = [(at, byte, len(found)) for _, found, at, byte in self.session.set.records]
+            self.expect(given == due, "set %s" % due)
+            self.expect(line == instead or line.startswith("set") and instead == "set", instead)
 
     def answered(self, call, line):
         """What an answer of a read or set says of the comparison with the Rust."""
@@ -147,7 +137,9 @@ class Case:
 
     def read(self, pester=0):
         line = self.serve((1,), pester)
-        self.expect_read(line)
+        if self.history:
+            due = self.history.read()
+            self.expect(line == due, due)
         self.answered((1,), line)
         return line
 
@@ -159,7 +151,7 @@ class Case:
             self.call(*call)
             return
         line = self.serve(call, pester)
-        self.expect_set(line)
+        self.expect_set(line, records, ends)
         if not self.same_window or self.reader.cut_short:
             self.inside = False
         self.answered(call, line)
@@ -172,14 +164,13 @@ class Case:
         answer = self.call(3, line, byte)
         if answer != "ok":
             return
-        if self.due:
-            self.due, self.record_lines = meaning.from_mark(self.plan.setup, self.plan.input, line, byte), None
-        emptied = self.reader.filled == 0
+        if self.history:
+            self.history.seek(line, byte)
         if self.empty_seek:
             self.same_window = False
         if self.reader.lead_dropped or self.plan.input[byte:byte + 1] != b">":
             self.inside = False
-        self.empty_seek = emptied
+        self.empty_seek = self.reader.filled == 0
         self.position_known = True
         self.rust((3, line, byte), answer)
 
@@ -188,10 +179,19 @@ class Case:
         if self.places:
             self.seek(*self.places[which % len(self.places)])
 
+    def seek_edge(self, behind, by):
+        """Seek to about the first filled byte or, `behind`, the first one not filled."""
+        reader = self.reader
+        self.seek(1, max(0, reader.offset + behind * reader.filled + by))
+
     # Looking
 
-    def position(self):
-        line = self.both((4,), self.position_known)
+    def position(self, compared=True):
+        line = self.both((4,), compared and self.position_known)
+        if self.history:
+            self.expect(line == self.history.position(), self.history.position())
+        if not compared:
+            return
         if not self.position_known and not self.reader.lead_dropped:
             # After a set or a buffer refusal the Rust may say none; what else it says must be right.
             self.rust((4,), "none or", *line.split())
@@ -205,7 +205,7 @@ class Case:
     def views(self):
         """Every view of the current record, one line number past the last too."""
         if self.current():
-            lines = self.record_lines
+            lines = self.history and self.history.lines
             for what in (0, 1, 2, 3, 5):
                 self.view(what)
                 if lines and what == 0:
@@ -270,7 +270,7 @@ class Case:
         """One call as it stands, with no refill: the Rust cannot stop inside a read."""
         line = self.call(*call)
         if call[0] in (1, 2, 3, 5, 14, 15):
-            self.inside, self.due = False, None
+            self.inside, self.history = False, None
         return line
 
     def report(self, count):
@@ -342,6 +342,8 @@ def random_input(rng, capacity):
     longest = rng.choice((20, 60, 200))
     while len(out) < longest and rng.random() < 0.93:
         need = max(1, rng.choice(sizes) + rng.randint(-3, 2))
+        if rng.random() < 0.1:
+            out += b">" * rng.randint(1, 9)
         record = bytearray(b">" + random_line(rng, rng.choice((0, 1, 2, 4, 7))) + ending)
         while len(record) < need:
             left = need - len(record)
@@ -392,8 +394,12 @@ def random_calls(rng, data, capacity):
             calls += [("seek_back", rng.randrange(99)), ("position",)]
             if rng.random() < 0.7:
                 calls.append(("read", pester))
-        elif pick < 0.70:
+        elif pick < 0.69:
             calls.append(random_seek(rng, data))
+            if rng.random() < 0.5:
+                calls.append(("read", pester))
+        elif pick < 0.72:
+            calls += [("seek_edge", rng.randrange(2), rng.choice((-1, 0, 0, 1))), ("read", pester)]
         elif pick < 0.78:
             # Wherever they fall: mostly without a current record.
             calls.append(("writer", rng.randrange(3), *random_rooms(rng)))
