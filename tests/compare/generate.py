@@ -34,6 +34,7 @@ class Case:
         self.reader = self.session.reader
         self.calls, self.lines = [], []
         self.rust_calls, self.rust_lines = [], []
+        self.rust_at = []  # the place of each of the Rust's calls among `calls`
         self.inside = self.reader is not None  # still inside the domain
         self.places = []  # positions that the reader gave
         self.position_known = True  # the Rust's `position` is not one of the known differences here
@@ -67,6 +68,7 @@ class Case:
         if self.inside:
             self.rust_calls.append(call)
             self.rust_lines.append(words)
+            self.rust_at.append(len(self.calls) - 1)
 
     def both(self, call, compared=True):
         """A call that changes nothing: compared with the Rust where the domain allows it."""

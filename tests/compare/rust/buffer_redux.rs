@@ -1,14 +1,15 @@
 //! Stand-in for the crate `buffer_redux`: a buffered reader that has exactly the capacity asked for.
 //!
-//! Imitates these calls of fasta.rs and of lib.rs's `fill_buf`, as the crate's documentation describes them:
+//! Imitates these calls of fasta.rs and of lib.rs's `fill_buf`, as we know them from the crate's documentation. The crate is not supplied, so no
+//! run here checks that it does the same.
 //!   `BufReader::with_capacity(capacity, inner)`
 //!   `buffer()`: the bytes read and not yet consumed
 //!   `capacity()`: the size of the whole buffer
 //!   `consume(n)` (of `BufRead`): the first n of them go
-//!   `make_room()`: "move data to the start of the buffer, making room at the end for more reading"
+//!   `make_room()`: the data moves to the start of the buffer, which makes room for reading at the end
 //!   `reserve(additional)`: space for that many bytes behind the data. The crate may allot more; here it is exactly as many
 //!   `read_into_buf()`: one read into the space at the end; gives the number of bytes read
-//!   `seek(from)` (of `Seek`): "always discards the internal buffer, even if the seek position would otherwise fall within it"
+//!   `seek(from)` (of `Seek`): discards the buffer, wherever the place sought lies
 //! Refusal 3, where a record is moved, and what a set copies rest on it. `Read` and `fill_buf` stand here because `BufRead` asks for them, and
 //! stop if called. `CAPACITY` is no part of the crate: it shows the driver the capacity of the reader made or grown last.
 use std::io::{self, BufRead, Read, Seek, SeekFrom};

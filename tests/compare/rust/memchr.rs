@@ -1,7 +1,7 @@
 //! Stand-in for the crate `memchr`: a plain loop.
 //!
-//! Imitates the one call of fasta.rs, in `Reader::_search`: `Memchr::new(needle, haystack)`, "an iterator over all occurrences of the needle in
-//! a haystack", which gives their places in rising order. Where records and lines end rests on it.
+//! Imitates the one call of fasta.rs, in `Reader::_search`: `Memchr::new(needle, haystack)`, an iterator over the places of the needle in the
+//! haystack, in rising order. Where records and lines end rests on it.
 
 pub struct Memchr<'h> {
     needle: u8,
