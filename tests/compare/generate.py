@@ -380,49 +380,52 @@ def random_calls(rng, data, capacity):
     for _ in range(rng.choice((2, 4, 8, 14))):
         pick = rng.random()
         pester = rng.choice((0, 0, 0, 1, 3))
-        if pick < 0.40:
-            calls += [("read", pester), ("position",)]
-            if rng.random() < 0.5:
-                calls.append(("views",))
-            calls += [("writer", rng.randrange(3), *random_rooms(rng)) for _ in range(rng.choice((0, 0, 1, 3)))]
-            if rng.random() < 0.2:
-                calls.append(("view", rng.randrange(6), rng.randrange(6), rng.choice((0, 1, 4, 16, PLENTY))))
-        elif pick < 0.54:
-            calls += [("set", None, rng.choice((1, 2, 64, 64, 64)), rng.choice((1, 3, 6, 1024, 1024, 1024)), pester), ("position",)]
-            if rng.random() < 0.6:
-                calls.append(("set_views",))
-            calls += [("set_writer", rng.randrange(3), rng.randrange(3), *random_rooms(rng)) for _ in range(rng.choice((0, 0, 1, 3)))]
-        elif pick < 0.66:
-            calls += [("seek_back", rng.randrange(99)), ("position",)]
-            if rng.random() < 0.7:
-                calls.append(("read", pester))
-        elif pick < 0.69:
-            calls.append(random_seek(rng, data))
-            if rng.random() < 0.5:
-                calls.append(("read", pester))
-        elif pick < 0.72:
-            calls += [("seek_edge", rng.randrange(2), rng.choice((-1, 0, 0, 1))), ("read", pester)]
-        elif pick < 0.78:
-            # Wherever they fall: mostly without a current record.
-            calls.append(("writer", rng.randrange(3), *random_rooms(rng)))
-            calls.append(("view", rng.randrange(6), rng.randrange(6), PLENTY))
-            calls.append(("set_writer", rng.randrange(4), rng.randrange(3), *random_rooms(rng)))
-        elif pick < 0.84:
-            calls.append(("set_view", rng.randrange(4), rng.randrange(6), rng.randrange(6), rng.choice((0, 1, 4, 16, PLENTY))))
-            calls.append(("set_place", rng.randrange(4)))
-        elif pick < 0.90:
-            calls += [("capacity",), ("grow", rng.choice((0, 1, capacity, 2 * capacity, rng.randrange(500), 1 << 23, (1 << 64) - 1)))]
-        elif pick < 0.95:
-            a, b, c = (random_line(rng, rng.choice((0, 1, 5, 12))) for _ in range(3))
-            width, room = rng.choice((0, 1, 2, 4, 5, 6, 99)), rng.choice((0, 1, 2, 7, 16, 40, PLENTY))
-            calls.append(("free", rng.randrange(10), a, b, c, width, room))
-        elif pick < 0.97:
-            calls.append(("report", rng.choice((0, 1, 5))))
-        else:
-            calls.append(("set", rng.choice((0, 1)), 4, 4))
+        calls += random_step(rng, data, pick, pester) if pick < 0.72 else random_look(rng, capacity, pick)
     if rng.random() < 0.3:
         calls.append(rng.choice((("all",), ("all", 2), ("all_sets",))))
     return calls
+
+
+def random_step(rng, data, pick, pester):
+    """A read, a set or a seek, with what is looked at behind it."""
+    if pick < 0.40:
+        calls = [("read", pester), ("position",)]
+        if rng.random() < 0.5:
+            calls.append(("views",))
+        calls += [("writer", rng.randrange(3), *random_rooms(rng)) for _ in range(rng.choice((0, 0, 1, 3)))]
+        if rng.random() < 0.2:
+            calls.append(("view", rng.randrange(6), rng.randrange(6), rng.choice((0, 1, 4, 16, PLENTY))))
+        return calls
+    if pick < 0.54:
+        calls = [("set", None, rng.choice((1, 2, 64, 64, 64)), rng.choice((1, 3, 6, 1024, 1024, 1024)), pester), ("position",)]
+        if rng.random() < 0.6:
+            calls.append(("set_views",))
+        return calls + [("set_writer", rng.randrange(3), rng.randrange(3), *random_rooms(rng)) for _ in range(rng.choice((0, 0, 1, 3)))]
+    if pick < 0.66:
+        calls = [("seek_back", rng.randrange(99)), ("position",)]
+        return calls + [("read", pester)] if rng.random() < 0.7 else calls
+    if pick < 0.69:
+        calls = [random_seek(rng, data)]
+        return calls + [("read", pester)] if rng.random() < 0.5 else calls
+    return [("seek_edge", rng.randrange(2), rng.choice((-1, 0, 0, 1))), ("read", pester)]
+
+
+def random_look(rng, capacity, pick):
+    """Calls that change nothing, wherever they fall: often there is no current record."""
+    if pick < 0.78:
+        return [("writer", rng.randrange(3), *random_rooms(rng)), ("view", rng.randrange(6), rng.randrange(6), PLENTY),
+                ("set_writer", rng.randrange(4), rng.randrange(3), *random_rooms(rng))]
+    if pick < 0.84:
+        return [("set_view", rng.randrange(4), rng.randrange(6), rng.randrange(6), rng.choice((0, 1, 4, 16, PLENTY))), ("set_place", rng.randrange(4))]
+    if pick < 0.90:
+        return [("capacity",), ("grow", rng.choice((0, 1, capacity, 2 * capacity, rng.randrange(500), 1 << 23, (1 << 64) - 1)))]
+    if pick < 0.95:
+        a, b, c = (random_line(rng, rng.choice((0, 1, 5, 12))) for _ in range(3))
+        width, room = rng.choice((0, 1, 2, 4, 5, 6, 99)), rng.choice((0, 1, 2, 7, 16, 40, PLENTY))
+        return [("free", rng.randrange(10), a, b, c, width, room)]
+    if pick < 0.97:
+        return [("report", rng.choice((0, 1, 5)))]
+    return [("set", rng.choice((0, 1)), 4, 4)]
 
 
 def random_seek(rng, data):
