@@ -1,4 +1,5 @@
-// Offsets in the window and in the input are numbers of two types (01); these functions alone turn one into the other.
+// Offsets in the window and in the input are numbers of two types (01). Search, moves and seeks turn one into the other by these functions
+// alone.
 ghost use Rattle.window.specs.Offset.{ToInput, ToWindow};
 
 pub struct WindowOffset(pub usize);
