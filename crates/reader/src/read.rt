@@ -8,7 +8,6 @@ use scan::Blank;
 ghost use mathlib.Core.Path.{_≡_};
 ghost use Prim.Native.Nat.{ℕ};
 ghost use mathlib.Core.List.{List};
-ghost use lib.ListN.{take};
 ghost use Rattle.reader.specs.State.{Good, Sane, rising};
 ghost use Rattle.reader.specs.Read.{did, readIn, lasts, led, ledTo, leadOn, LeadIn, beginsAt, soughtAt, searchedOn, whenReady, behind, NextIs};
 
