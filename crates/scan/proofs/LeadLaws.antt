@@ -4,7 +4,7 @@ use native.Mathlib.Decide.{decLe}
 use native.Mathlib.Nat.{eq-or-lt-of-le}
 use native.Mathlib.Numerals.{add-one}
 use native.Mathlib.Omega.{arith}
-use mathlib.Core.Bool.{Bool, true, false, _&&_}
+use mathlib.Core.Bool.{Bool, true, false, _&&_, false≢true}
 use mathlib.Core.List.{List, [], _∷_}
 use mathlib.Core.Logic.{⊎-elim}
 use mathlib.Core.Path.{_≡_, refl, sym, ap, subst, _∙_}
@@ -84,7 +84,7 @@ module _ (s : List ℕ) where
   lead-along :
       (P : (i n : ℕ) → Blank → Type 0) →
       ((i n : ℕ) → length s ≤ i → P i n (blank i n true)) →
-      ((i n : ℕ) (b : Bool) → i < length s → P i n (blank i n b)) →
+      ((i n : ℕ) (b : Bool) → i < length s → (b ≡ true → length s ≤ i + 1) → P i n (blank i n b)) →
       ((i j n : ℕ) (r : Blank) → i < j → j ≤ length s → P j (n + 1) r → P i n r) →
       (i n : ℕ) →
       P i n (at i n)
@@ -106,11 +106,12 @@ module _ (s : List ℕ) where
       turn i n h d true u v x y z next =
           rw (lead-empty i n h (eqb-true (getD s i 0) 10 x)) (line i (i + 1) n _ (omega arith) (omega arith) (next (i + 1) (omega arith)))
       turn i n h d false false v x y z next =
-          rw (lead-other i n h (eqb-false (getD s i 0) 10 x) (eqb-false (getD s i 0) 13 y)) (stop i n false h)
+          rw (lead-other i n h (eqb-false (getD s i 0) 10 x) (eqb-false (getD s i 0) 13 y)) (stop i n false h (λ e. absurd (false≢true e)))
       turn i n h (yes k) false true v x y z next =
-          rw (lead-cr-last i n (omega arith) (eqb-true (getD s i 0) 13 y)) (stop i n true h)
+          rw (lead-cr-last i n (omega arith) (eqb-true (getD s i 0) 13 y)) (stop i n true h (λ e. k))
       turn i n h (no k) false true false x y z next =
-          rw (lead-cr-other i n (omega arith) (eqb-true (getD s i 0) 13 y) (eqb-false (getD s (i + 1) 0) 10 z)) (stop i n false h)
+          rw (lead-cr-other i n (omega arith) (eqb-true (getD s i 0) 13 y) (eqb-false (getD s (i + 1) 0) 10 z))
+          (stop i n false h (λ e. absurd (false≢true e)))
       turn i n h (no k) false true true x y z next =
           rw (lead-cr i n (omega arith) (eqb-true (getD s i 0) 13 y) (eqb-true (getD s (i + 1) 0) 10 z))
           (line i (i + 1 + 1) n _ (omega arith) (omega arith) (next (i + 1 + 1) (omega arith)))
@@ -130,13 +131,15 @@ pub record Led (bytes : List ℕ) (i n : ℕ) (r : Blank) : Type 0 where
   pub apart : i + r .lines ≤ r .at + n
   pub within : i ≤ length bytes → r .at ≤ length bytes
   pub decided : r .undecided ≡ false → r .at < length bytes
+  pub at-last : r .undecided ≡ true → length bytes ≤ r .at + 1
 
 led : (bytes : List ℕ) (i n : ℕ) → Led bytes i n (leadAt (drop i bytes) i n)
 led bytes =
     lead-along bytes (Led bytes)
-    (λ i n h. record { apart = omega arith; within = λ k. k; decided = λ e. let z : _≡_ {A = ℕ} 0 1 = cc in omega arith })
-    (λ i n b h. record { apart = omega arith; within = λ k. k; decided = λ e. h })
-    (λ i j n r h k f. record { apart = omega arith; within = λ l. f .within (omega arith); decided = f .decided })
+    (λ i n h. record { apart = omega arith; within = λ k. k; decided = λ e. absurd (false≢true (sym e)); at-last = λ e. omega arith })
+    (λ i n b h l. record { apart = omega arith; within = λ k. k; decided = λ e. h; at-last = l })
+    (λ i j n r h k f.
+    record { apart = omega arith; within = λ l. f .within (omega arith); decided = f .decided; at-last = f .at-last })
 
 -- what `lead` answers
 pub lead-led : (bytes : List ℕ) (from : ℕ) (r : Blank) → Lead bytes from r → Led bytes from 0 r
