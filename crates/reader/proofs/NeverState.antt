@@ -22,39 +22,44 @@ use Rattle.reader.proofs.Made.{sane-made, sane-report, sane-seek}
 use Rattle.reader.proofs.Kept.{Kept, kept-begun, kept-sane, kept-rising, kept-read, read-not-state}
 
 -- A reader with its window and its table as calls left them: set up over them, then read, told of bytes, and sought, in any order and by any
--- arguments, a read over a window or a table of another length too. Between calls the caller may put any bytes into the window; the table is the reader's.
-pub data Calls : Reader → (w e : List ℕ) → Type 0 where
-  by-setup : (capacity : ℕ) (p : Policy) (r : Reader) (w e : List ℕ) → setupOf capacity p (length w) (length e) ≡ some r → Calls r w e
-  by-read : (r : Reader) (w e : List ℕ) → Calls r w e → Calls (readOf r w e .reader) (readOf r w e .window) (readOf r w e .table)
+-- arguments, a read over a window or a table of another length too. Between calls the caller may put any bytes into the window, and anything
+-- into the table where that is not the reader's own.
+pub data Calls (own : Bool) : Reader → (w e : List ℕ) → Type 0 where
+  by-setup : (capacity : ℕ) (p : Policy) (r : Reader) (w e : List ℕ) → setupOf capacity p (length w) (length e) ≡ some r → Calls own r w e
+  by-read : (r : Reader) (w e : List ℕ) → Calls own r w e → Calls own (readOf r w e .reader) (readOf r w e .window) (readOf r w e .table)
   by-misread :
       (r : Reader) (w e w′ e′ : List ℕ) →
       (length w′ ≡ length w → length e′ ≡ length e → ⊥) →
-      Calls r w e →
-      Calls (readOf r w′ e′ .reader) w e
-  by-refill : (r : Reader) (w e w′ : List ℕ) → length w′ ≡ length w → Calls r w e → Calls r w′ e
-  by-report : (count : ℕ) (r : Reader) (w e : List ℕ) → Calls r w e → Calls (reportOf count r .reader) w e
-  by-seek : (line byte : ℕ) (r : Reader) (w e : List ℕ) → Calls r w e → Calls (seekOf line byte r .reader) w e
+      Calls own r w e →
+      Calls own (readOf r w′ e′ .reader) w e
+  by-refill : (r : Reader) (w e w′ : List ℕ) → length w′ ≡ length w → Calls own r w e → Calls own r w′ e
+  by-alter : own ≡ false → (r : Reader) (w e e′ : List ℕ) → length e′ ≡ length e → Calls own r w e → Calls own r w e′
+  by-report : (count : ℕ) (r : Reader) (w e : List ℕ) → Calls own r w e → Calls own (reportOf count r .reader) w e
+  by-seek : (line byte : ℕ) (r : Reader) (w e : List ℕ) → Calls own r w e → Calls own (seekOf line byte r .reader) w e
 
--- no call answers 11, and the table holds ends that rise, as views of the current record ask
-pub record NeverState (r : Reader) (w e : List ℕ) : Type 0 where
-  pub in-read : readOf r w e .said ≡ refuses 11 [] → ⊥
+-- The reader passes the test, so no call over the lent lengths answers 11. A read also tests the ends, as views of the current record do: these
+-- rise in a table that is the reader's own.
+pub record NeverState (own : Bool) (r : Reader) (w e : List ℕ) : Type 0 where
+  pub is-sane : sane r ≡ true
+  pub in-read : own ≡ true → readOf r w e .said ≡ refuses 11 [] → ⊥
   pub in-report : (count : ℕ) → reportOf count r .refusal ≡ some 11 → ⊥
   pub in-seek : (line byte : ℕ) → seekOf line byte r .refusal ≡ some 11 → ⊥
   pub in-position : placeOf r ≡ unknown 11 → ⊥
   pub in-current : currentOf (length w) (length e) r ≡ missing 11 → ⊥
-  pub in-ends : endsRise r e ≡ true
+  pub in-ends : own ≡ true → endsRise r e ≡ true
 
-pub kept-made : (capacity : ℕ) (p : Policy) (r : Reader) (w e : List ℕ) → setupOf capacity p (length w) (length e) ≡ some r → Kept r w e
+-- a reader that was set up
+pub kept-made : {own : Bool} (capacity : ℕ) (p : Policy) (r : Reader) (w e : List ℕ) → setupOf capacity p (length w) (length e) ≡ some r → Kept own r w e
 unfolding setupOf
-kept-made capacity p r w e is = go (setupRefused capacity (length w) (length e)) refl
+kept-made {own} capacity p r w e is = go (setupRefused capacity (length w) (length e)) refl
   where
-    go : (t : Bool) → setupRefused capacity (length w) (length e) ≡ t → Kept r w e
+    go : (t : Bool) → setupRefused capacity (length w) (length e) ≡ t → Kept own r w e
     go true t =
         let refused : setupOf capacity p (length w) (length e) ≡ none = rw t in
         absurd (Option·none-ne-some r (sym refused ∙ is))
     go false t =
         let same = Option·some-injective _ r (sym (setup-made capacity (length w) (length e) p (test-fitting capacity (length w) (length e) t)) ∙ is) in
-        subst (λ (o : Reader). Kept o w e) same
+        subst (λ (o : Reader). Kept own o w e) same
         (kept-begun (made capacity p (length w) (length e)) w e
         (record { is-sane = sane-made capacity p (length w) (length e) t; window-lent = refl; table-lent = refl })
         refl)
@@ -87,13 +92,13 @@ isMissing (held s f c) = false
 isMissing (missing n) = eqb n 11
 
 -- what a report or a seek says and leaves, if it keeps the invariant
-record Leaves (w e : List ℕ) (l : Left) : Type 0 where
-  is-kept : Kept (l .reader) w e
+record Leaves (own : Bool) (w e : List ℕ) (l : Left) : Type 0 where
+  is-kept : Kept own (l .reader) w e
   not-state : isRefused (l .refusal) ≡ false
 
-module _ (r : Reader) (w e : List ℕ) (k : Kept r w e) where
+module _ {own : Bool} (r : Reader) (w e : List ℕ) (k : Kept own r w e) where
   -- of the window only its length matters
-  pub kept-refilled : (w′ : List ℕ) → length w′ ≡ length w → Kept r w′ e
+  pub kept-refilled : (w′ : List ℕ) → length w′ ≡ length w → Kept own r w′ e
   kept-refilled w′ same =
       record {
         is-good =
@@ -103,29 +108,43 @@ module _ (r : Reader) (w e : List ℕ) (k : Kept r w e) where
               table-lent = k .is-good .table-lent;
             };
         ends-rise = k .ends-rise;
-        ends-behind = k .ends-behind;
+        is-behind = k .is-behind;
+      }
+
+  -- and of the table, where it is not the reader's own
+  kept-altered : own ≡ false → (e′ : List ℕ) → length e′ ≡ length e → Kept own r w e′
+  kept-altered o e′ same =
+      record {
+        is-good =
+            record {
+              is-sane = k .is-good .is-sane;
+              window-lent = k .is-good .window-lent;
+              table-lent = k .is-good .table-lent ∙ sym same;
+            };
+        ends-rise = λ q. absurd (false≢true (sym o ∙ q));
+        is-behind = λ s. record { count-behind = k .is-behind s .count-behind; ends-behind = λ q. absurd (false≢true (sym o ∙ q)) };
       }
 
   -- a read over other lengths changes nothing
-  pub kept-misread : (w′ e′ : List ℕ) → (length w′ ≡ length w → length e′ ≡ length e → ⊥) → Kept (readOf r w′ e′ .reader) w e
+  pub kept-misread : (w′ e′ : List ℕ) → (length w′ ≡ length w → length e′ ≡ length e → ⊥) → Kept own (readOf r w′ e′ .reader) w e
   kept-misread w′ e′ other = go (eqb (r .fill .lent) (length w′)) refl
     where
-      by : (d : Did) → readOf r w′ e′ ≡ d → d .reader ≡ r → Kept (readOf r w′ e′ .reader) w e
-      by d is same = subst (λ (o : Reader). Kept o w e) (sym (ap (λ (x : Did). x .reader) is ∙ same)) k
+      by : (d : Did) → readOf r w′ e′ ≡ d → d .reader ≡ r → Kept own (readOf r w′ e′ .reader) w e
+      by d is same = subst (λ (o : Reader). Kept own o w e) (sym (ap (λ (x : Did). x .reader) is ∙ same)) k
 
-      go : (t : Bool) → eqb (r .fill .lent) (length w′) ≡ t → Kept (readOf r w′ e′ .reader) w e
+      go : (t : Bool) → eqb (r .fill .lent) (length w′) ≡ t → Kept own (readOf r w′ e′ .reader) w e
       go false t = by _ (read-other-window r w′ e′ (eqb-false (r .fill .lent) (length w′) t)) refl
       go true t =
           let same-window = sym (eqb-true (r .fill .lent) (length w′) t) ∙ k .is-good .window-lent in
           by _ (read-other-table r w′ e′ (λ is. other same-window (sym is ∙ k .is-good .table-lent))) refl
 
-  leaves-report : (count : ℕ) → Leaves w e (reportOf count r)
-  leaves-report count = subst (Leaves w e) (sym taken) (go (reported count (r .fill)) refl)
+  leaves-report : (count : ℕ) → Leaves own w e (reportOf count r)
+  leaves-report count = subst (Leaves own w e) (sym taken) (go (reported count (r .fill)) refl)
     where
       taken : reportOf count r ≡ tookOver (reported count (r .fill)) r
       taken = report-sane r count (kept-sane r w e k)
 
-      go : (o : Option Fill) → reported count (r .fill) ≡ o → Leaves w e (tookOver o r)
+      go : (o : Option Fill) → reported count (r .fill) ≡ o → Leaves own w e (tookOver o r)
       go none q = record { is-kept = k; not-state = refl }
       go (some f) q =
           record {
@@ -140,20 +159,20 @@ module _ (r : Reader) (w e : List ℕ) (k : Kept r w e) where
                         table-lent = k .is-good .table-lent;
                       };
                   ends-rise = k .ends-rise;
-                  ends-behind = k .ends-behind;
+                  is-behind = k .is-behind;
                 };
             not-state = refl;
           }
 
-  leaves-seek : (line byte : ℕ) → Leaves w e (seekOf line byte r)
+  leaves-seek : (line byte : ℕ) → Leaves own w e (seekOf line byte r)
   leaves-seek line byte = go (misplaced line byte) refl (holds byte (r .fill)) refl
     where
       fine : sane r ≡ true
       fine = kept-sane r w e k
 
-      begun : (x : Reader) → seekOf line byte r ≡ done x → x .fill .lent ≡ r .fill .lent → x .slots ≡ r .slots → x .mark .count ≡ 0 → Leaves w e (seekOf line byte r)
+      begun : (x : Reader) → seekOf line byte r ≡ done x → x .fill .lent ≡ r .fill .lent → x .slots ≡ r .slots → x .mark .count ≡ 0 → Leaves own w e (seekOf line byte r)
       begun x is lent slots z =
-          subst (Leaves w e) (sym is)
+          subst (Leaves own w e) (sym is)
           (record {
             is-kept =
                 kept-begun x w e
@@ -166,8 +185,8 @@ module _ (r : Reader) (w e : List ℕ) (k : Kept r w e) where
             not-state = refl;
           })
 
-      go : (t : Bool) → misplaced line byte ≡ t → (u : Bool) → holds byte (r .fill) ≡ u → Leaves w e (seekOf line byte r)
-      go true m u h = subst (Leaves w e) (sym (seek-misplaced r line byte fine m)) (record { is-kept = k; not-state = refl })
+      go : (t : Bool) → misplaced line byte ≡ t → (u : Bool) → holds byte (r .fill) ≡ u → Leaves own w e (seekOf line byte r)
+      go true m u h = subst (Leaves own w e) (sym (seek-misplaced r line byte fine m)) (record { is-kept = k; not-state = refl })
       go false m true h = begun (soughtIn line byte r) (seek-in r line byte fine m h) refl refl refl
       go false m false h = begun (soughtOut line byte r) (seek-out r line byte fine m h) refl refl refl
 
@@ -193,15 +212,16 @@ module _ (r : Reader) (w e : List ℕ) (k : Kept r w e) where
       go true t = ap isMissing (current-held r (length w) (length e) (kept-sane r w e k) (k .is-good .window-lent) (k .is-good .table-lent) t)
       go false t = ap isMissing (current-none r (length w) (length e) (kept-sane r w e k) (k .is-good .window-lent) (k .is-good .table-lent) t)
 
-  pub kept-report : (count : ℕ) → Kept (reportOf count r .reader) w e
+  pub kept-report : (count : ℕ) → Kept own (reportOf count r .reader) w e
   kept-report count = leaves-report count .is-kept
 
-  pub kept-seek : (line byte : ℕ) → Kept (seekOf line byte r .reader) w e
+  pub kept-seek : (line byte : ℕ) → Kept own (seekOf line byte r .reader) w e
   kept-seek line byte = leaves-seek line byte .is-kept
 
-  kept-never : NeverState r w e
+  kept-never : NeverState own r w e
   kept-never =
       record {
+        is-sane = kept-sane r w e k;
         in-read = read-not-state r w e k;
         in-report = λ count is. false≢true (sym (leaves-report count .not-state) ∙ ap isRefused is);
         in-seek = λ line byte is. false≢true (sym (leaves-seek line byte .not-state) ∙ ap isRefused is);
@@ -211,14 +231,15 @@ module _ (r : Reader) (w e : List ℕ) (k : Kept r w e) where
       }
 
 -- setup and any calls keep the invariant
-pub calls-kept : {r : Reader} {w e : List ℕ} → Calls r w e → Kept r w e
+pub calls-kept : {own : Bool} {r : Reader} {w e : List ℕ} → Calls own r w e → Kept own r w e
 calls-kept (by-setup capacity p r w e is) = kept-made capacity p r w e is
 calls-kept (by-read r w e c) = kept-read r w e (calls-kept c)
 calls-kept (by-misread r w e w′ e′ other c) = kept-misread r w e (calls-kept c) w′ e′ other
 calls-kept (by-refill r w e w′ same c) = kept-refilled r w e (calls-kept c) w′ same
+calls-kept (by-alter o r w e e′ same c) = kept-altered r w e (calls-kept c) o e′ same
 calls-kept (by-report count r w e c) = kept-report r w e (calls-kept c) count
 calls-kept (by-seek line byte r w e c) = kept-seek r w e (calls-kept c) line byte
 
 -- so none refuses the state
-pub never-state : {r : Reader} {w e : List ℕ} → Calls r w e → NeverState r w e
-never-state {r} {w} {e} c = kept-never r w e (calls-kept c)
+pub never-state : {own : Bool} {r : Reader} {w e : List ℕ} → Calls own r w e → NeverState own r w e
+never-state {own} {r} {w} {e} c = kept-never r w e (calls-kept c)
