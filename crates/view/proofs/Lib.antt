@@ -5,4 +5,5 @@ pub mod Cases
 pub mod Joins
 pub mod Places
 pub mod Meaning
+pub mod Inside
 pub mod Unique

@@ -3,3 +3,4 @@ pub mod Rising
 pub mod View
 pub mod Full
 pub mod Shows
+pub mod Current

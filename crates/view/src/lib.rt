@@ -1,8 +1,16 @@
 // Views of a record (01, module 5) over bytes, the place of its `>` and its recorded ends, the head's end first: a window's current
 // record and a set's record are both such. Each is total: it tests the ends that it uses.
+mod current;
 mod joined;
 mod parts;
 
+pub use current::desc;
+pub use current::full_seq;
+pub use current::head;
+pub use current::id;
+pub use current::line;
+pub use current::lines;
+pub use current::seq;
 pub use joined::full_in;
 pub use joined::pick;
 pub use parts::desc_in;
@@ -28,5 +36,12 @@ pub enum Full {
     Scratch(usize),
     NoRecord,
     Room(usize),
+    State,
+}
+
+// What a count of sequence lines answers: their number, or refusal 7 or 11.
+pub enum Count {
+    Lines(usize),
+    NoRecord,
     State,
 }
