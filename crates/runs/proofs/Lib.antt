@@ -1,0 +1,2 @@
+-- Theorems about all runs of a reader, and the steps to them.
+pub mod Tells

@@ -1,0 +1,3 @@
+-- Runs of a reader and what is owed of them: demand 3, resuming, progress, what refusals leave, `position` by what was heard.
+pub mod Run
+pub mod Demand
