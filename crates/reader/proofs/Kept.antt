@@ -78,18 +78,18 @@ unready f s t = go (f .told) (eqb (f .filled) (f .capacity)) refl t
     go false false q no′ = let other = eqb-false (f .filled) (f .capacity) q in ⊎-elim (λ same. absurd (other same)) (λ less. less) (eq-or-lt-of-le fits)
 
 -- a said refusal 11
-abbrev isState : Said → Bool
+abbrev pub isState : Said → Bool
 isState (asks p m o) = false
 isState (gives l b) = false
 isState ends = false
 isState (refuses n vs) = eqb n 11
 
 -- what a read says and leaves, if it keeps the invariant
-record Keeps (own : Bool) (d : Did) : Type 0 where
-  is-kept : Kept own (d .reader) (d .window) (d .table)
-  not-state : own ≡ true → isState (d .said) ≡ false
+pub record Keeps (own : Bool) (d : Did) : Type 0 where
+  pub is-kept : Kept own (d .reader) (d .window) (d .table)
+  pub not-state : own ≡ true → isState (d .said) ≡ false
 
-as-done : {own : Bool} {d o : Did} → d ≡ o → Keeps own o → Keeps own d
+pub as-done : {own : Bool} {d o : Did} → d ≡ o → Keeps own o → Keeps own d
 as-done {own} {d} {o} is k = subst (λ (x : Did). Keeps own x) (sym is) k
 
 module _ (r : Reader) (w e : List ℕ) where
@@ -145,7 +145,7 @@ module _ (r : Reader) (w e : List ℕ) where
 
 module _ {own : Bool} (r : Reader) (w e : List ℕ) where
   -- nothing is recorded yet
-  begun-behind : r .mark .count ≡ 0 → Behind own (r .mark) e
+  pub begun-behind : r .mark .count ≡ 0 → Behind own (r .mark) e
   unfolding Rises
   begun-behind z = record { count-behind = omega arith; ends-behind = λ o. rw z (omega arith) }
 
@@ -159,7 +159,7 @@ module _ {own : Bool} (r : Reader) (w e : List ℕ) where
       }
 
   -- a record that is searched
-  kept-searched : Good r w e → Behind own (r .mark) e → Kept own r w e
+  pub kept-searched : Good r w e → Behind own (r .mark) e → Kept own r w e
   kept-searched g h =
       let a = g .is-sane .start-search in
       record {
@@ -231,7 +231,7 @@ module _ {own : Bool} (r : Reader) (w e : List ℕ) where
       }
 
   -- an ask, where there is room
-  keeps-asked : Kept own r w e → r .fill .filled < r .fill .capacity → Keeps own (asked r w e)
+  pub keeps-asked : Kept own r w e → r .fill .filled < r .fill .capacity → Keeps own (asked r w e)
   keeps-asked k room =
       record {
         is-kept =
@@ -241,7 +241,7 @@ module _ {own : Bool} (r : Reader) (w e : List ℕ) where
       }
 
   -- a read that waits for a full window or the end
-  keeps-ready : (f : Reader → List ℕ → List ℕ → Did) → Kept own r w e → (ready (r .fill) ≡ true → Keeps own (f r w e)) → Keeps own (whenReady f r w e)
+  pub keeps-ready : (f : Reader → List ℕ → List ℕ → Did) → Kept own r w e → (ready (r .fill) ≡ true → Keeps own (f r w e)) → Keeps own (whenReady f r w e)
   keeps-ready f k then′ = go (ready (r .fill)) refl
     where
       go : (t : Bool) → ready (r .fill) ≡ t → Keeps own (whenReady f r w e)
@@ -453,7 +453,7 @@ module _ {own : Bool} (r : Reader) (w e : List ℕ) (g : Good r w e) (h : Behind
           omega (arith, finds .apart)))
 
 -- a record that begins in the filled bytes
-keeps-begun : {own : Bool} (r : Reader) (w e : List ℕ) → Good r w e → r .mark .count ≡ 0 → Keeps own (hunted r w e)
+pub keeps-begun : {own : Bool} (r : Reader) (w e : List ℕ) → Good r w e → r .mark .count ≡ 0 → Keeps own (hunted r w e)
 keeps-begun r w e g z = keeps-hunted r w e g (begun-behind r w e z)
 
 module _ {own : Bool} (r : Reader) (w e : List ℕ) (k : Kept own r w e) where

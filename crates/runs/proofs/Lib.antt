@@ -1,2 +1,9 @@
 -- Theorems about all runs of a reader, and the steps to them.
 pub mod Tells
+pub mod Keeping
+pub mod Step
+pub mod Calls
+pub mod Fine
+pub mod Within
+pub mod Given
+pub mod Reached

@@ -15,7 +15,7 @@ use Rattle.reader.specs.declared.state.Phase.{Phase}
 use Rattle.reader.specs.declared.state.Phase.the-variants as phase
 use Rattle.reader.specs.State.{Good, byteOf}
 use Rattle.window.specs.Fill.{ready}
-use Rattle.reader.specs.Read.{Said, asks, gives, ends, refuses, Did, placed, hunted, led}
+use Rattle.reader.specs.Read.{Said, asks, gives, ends, refuses, Did, placed, hunted, led, soughtAt, behind}
 use Rattle.reader.proofs.Kept.{isSearching, Behind, goesOn}
 
 abbrev pub Dues : Type 0
@@ -93,9 +93,32 @@ later [] = []
 later (a ∷ []) = a ∷ []
 later (a ∷ b ∷ rest) = b ∷ rest
 
+abbrev pub isWindow : Phase → Bool
+isWindow phase.Lead = false
+isWindow phase.Sought = false
+isWindow phase.Searching = false
+isWindow phase.Current = false
+isWindow phase.Ended = false
+isWindow phase.Over = false
+isWindow phase.Window = true
+isWindow phase.Table = false
+isWindow phase.Astray = false
+
+abbrev pub isTable : Phase → Bool
+isTable phase.Lead = false
+isTable phase.Sought = false
+isTable phase.Searching = false
+isTable phase.Current = false
+isTable phase.Ended = false
+isTable phase.Over = false
+isTable phase.Window = false
+isTable phase.Table = true
+isTable phase.Astray = false
+
 -- what refusals leave: 3 the record at offset 0, 4 as many ends as there are slots
-abbrev pub Leaves : (number : ℕ) → Reader → Type 0
-Leaves number r = ((number ≡ 3) → (r .mark .start .0 ≡ 0)) × ((number ≡ 4) → (r .mark .count ≡ r .slots))
+pub record Rests (r : Reader) : Type 0 where
+  pub at-front : isWindow (r .phase) ≡ true → r .mark .start .0 ≡ 0
+  pub all-slots : isTable (r .phase) ≡ true → r .mark .count ≡ r .slots
 
 -- a record that is current: its mark's numbers are the reader's
 pub record Holds (m : Mark) (r : Reader) (e : List ℕ) : Type 0 where
@@ -116,7 +139,7 @@ Says ends meant.ends r e = Unit {0}
 Says ends (meant.refuses n vs) r e = ⊥
 Says (refuses n vs) (meant.gives m) r e = ⊥
 Says (refuses n vs) meant.ends r e = ⊥
-Says (refuses n vs) (meant.refuses k us) r e = (n ≡ k) × ((vs ≡ us) × Leaves n r)
+Says (refuses n vs) (meant.refuses k us) r e = (n ≡ k) × (vs ≡ us)
 
 pub record Answers (s : Said) (d : Dues) (X : List ℕ) (C : ℕ) (r : Reader) (e : List ℕ) : Type 0 where
   pub first : meant.Said Mark
@@ -131,10 +154,11 @@ Goes (gives l b) d X C r e = Answers (gives l b) d X C r e
 Goes ends d X C r e = Answers ends d X C r e
 Goes (refuses n vs) d X C r e = Answers (refuses n vs) d X C r e
 
--- the same window of the input, as far as it is filled, with the same end
+-- the same window of the input, as far as it is filled, with the same end, and as many slots
 pub record Same (r q : Reader) : Type 0 where
   pub reaches : q .fill .base .0 + q .fill .filled ≡ r .fill .base .0 + r .fill .filled
   pub end-told : q .fill .told ≡ r .fill .told
+  pub slots-are : q .slots ≡ r .slots
 
 -- a read that goes on as it should, from a reader r to what it did
 pub record Step (X : List ℕ) (C : ℕ) (r : Reader) (due : Dues) (d : Did) : Type 0 where
@@ -144,6 +168,7 @@ pub record Step (X : List ℕ) (C : ℕ) (r : Reader) (due : Dues) (d : Did) : T
   pub largest-is : largest (d .reader .fill .policy) (d .reader .fill .lent) (d .reader .fill .capacity) ≡ C
   pub sought-inside : isSought (d .reader .phase) ≡ true → d .reader .mark .start .0 < d .reader .fill .capacity
   pub same : Same r (d .reader)
+  pub rests : Rests r → Rests (d .reader)
 
 -- A search that may go on, of a record that stands in the window: what follows is a step, whatever the phase was before.
 abbrev pub Hunts : Type 0
@@ -162,3 +187,20 @@ Leads =
     r .phase ≡ phase.Lead →
     ready (r .fill) ≡ true →
     Step X C r (dueIn phase.Lead X C r e) (led r w e)
+
+-- a place sought, in a window that is full or at the told end
+abbrev pub Soughts : Type 0
+Soughts =
+    (X : List ℕ) (C : ℕ) (r : Reader) (w e : List ℕ) →
+    Tells X C r w e →
+    r .phase ≡ phase.Sought →
+    ready (r .fill) ≡ true →
+    Step X C r (dueIn phase.Sought X C r e) (soughtAt r w e)
+
+-- what comes behind a current record
+abbrev pub Behinds : Type 0
+Behinds =
+    (X : List ℕ) (C : ℕ) (r : Reader) (w e : List ℕ) →
+    Tells X C r w e →
+    r .phase ≡ phase.Current →
+    Step X C r (dueIn phase.Current X C r e) (behind r w e)

@@ -1,0 +1,174 @@
+-- A record that is current, by its mark, stands in the window with the ends of its lines: so `position` is its place, and the views show it as
+-- the input's meaning has it. Assumes nothing.
+use Prim.Native.Nat.{ℕ, zero, suc, _+_, _-_, _≤_, _<_}
+use native.Mathlib.Omega.{arith}
+use mathlib.Core.Bool.{Bool, true, false}
+use mathlib.Core.List.{List, [], _∷_, _++_, map}
+use mathlib.Core.Option.{Option, some}
+use mathlib.Core.Path.{_≡_, refl, sym, ap, subst, _∙_}
+use lib.ListN.{length, getD, take, drop, length-drop}
+use lib.Seq.{length-take-le, drop-drop, drop-append-le, take-append-le, drop-cons}
+use lib.Dec.{eqb}
+use borrow.Author.Tests.{eqb-true, eqb-false}
+use Rattle.meaning.specs.Input.{Rec}
+use Rattle.meaning.specs.Parts.{size, headOf, seqLines, seqOf, idOf, descOf}
+use Rattle.meaning.specs.OnePass.{Mark}
+use Rattle.meaning.proofs.OnePass.{cutOut}
+use Rattle.meaning.proofs.Ends.{endsAt, closing}
+use Rattle.meaning.proofs.Marks.{right-size}
+use Rattle.reader.specs.declared.state.Reader.{Reader}
+use Rattle.reader.specs.declared.state.Phase.the-variants as phase
+use Rattle.reader.specs.State.{byteOf, isCurrent}
+use Rattle.reader.specs.Calls.{Held, held, at, placeOf, currentOf}
+use Rattle.reader.proofs.Sanity.{sane-true}
+use Rattle.reader.proofs.CallLaws.{place-shown, current-held}
+use Rattle.view.specs.View.{Shown, headIn, idIn, descIn, lineIn, lineCount}
+use Rattle.view.specs.Full.{Left, left, fullIn, picked}
+use Rattle.view.specs.Full as full
+use Rattle.view.specs.Shows.{Shows}
+use Rattle.view.specs.Current.{ofHeld, ofCurrent, refused, are}
+use Rattle.view.specs.Current as current
+use Rattle.view.proofs.Meaning.{Stands, head-shows, id-shows, desc-shows, count-is, line-shows, full-shows, full-one-shows}
+use Rattle.runs.specs.Run.{state}
+use Rattle.runs.specs.Demand.{Gives}
+use Rattle.runs.proofs.Tells.{Tells, Holds, endsOf}
+use Rattle.runs.proofs.Fine.{Fine}
+use Rattle.runs.proofs.Within.{Within, shows-wider, head-within, id-in, desc-in, line-in′, picked-wider}
+
+-- places counted from b on
+abbrev shifted : (b : ℕ) → List ℕ → List ℕ
+shifted b es = map (λ (x : ℕ). b + x) es
+
+shift-closing : (b i : ℕ) (t : Bool) (es : List ℕ) → closing t (b + i) (shifted b es) ≡ shifted b (closing t i es)
+shift-closing b i true es = refl
+shift-closing b i false es = refl
+
+ends-shift : (b : ℕ) (xs : List ℕ) (i : ℕ) (fresh : Bool) → endsAt (b + i) xs fresh ≡ shifted b (endsAt i xs fresh)
+unfolding endsAt
+ends-shift b [] i true = refl
+ends-shift b [] i false = refl
+ends-shift b (x ∷ xs) i fresh =
+    let s : suc (b + i) ≡ b + suc i = omega arith in
+    ap (λ (n : ℕ). closing (eqb x 10) (b + i) (endsAt n xs (eqb x 10))) s
+    ∙ ap (closing (eqb x 10) (b + i)) (ends-shift b xs (suc i) (eqb x 10))
+    ∙ shift-closing b i (eqb x 10) (endsAt (suc i) xs (eqb x 10))
+
+shift-injective : (b : ℕ) (es fs : List ℕ) → shifted b es ≡ shifted b fs → es ≡ fs
+shift-injective b [] [] e = refl
+shift-injective b [] (f ∷ fs) e = absurd (let z : 0 ≡ suc (length (shifted b fs)) = ap length e in omega arith)
+shift-injective b (x ∷ es) [] e = absurd (let z : suc (length (shifted b es)) ≡ 0 = ap length e in omega arith)
+shift-injective b (x ∷ es) (f ∷ fs) e =
+    let h : b + x ≡ b + f = ap (λ (l : List ℕ). getD l 0 0) e in
+    let k : x ≡ f = omega arith in
+    let t = shift-injective b es fs (ap (drop 1) e) in
+    λ i. k i ∷ t i
+
+module _ (X : List ℕ) (C : ℕ) (r : Reader) (w e : List ℕ) (t : Tells X C r w e) (m : Mark) (f : Fine X m) (k : Holds m r e) where
+  abbrev F : List ℕ
+  F = take (r .fill .filled) w
+
+  abbrev start : ℕ
+  start = r .mark .start .0
+
+  abbrev es : List ℕ
+  es = take (r .mark .count) e
+
+  abbrev rec : Rec
+  rec = cutOut X m
+
+  is-here : isCurrent (r .phase) ≡ true
+  is-here = ap isCurrent (k .is-current)
+
+  some-end : 1 ≤ r .mark .count
+  some-end = t .is-good .is-sane .current-has-end is-here
+
+  fits : r .fill .filled ≤ length w
+  fits = let v = t .is-good .is-sane .window-sound in omega (arith, v .filled-fits, v .capacity-fits, t .is-good .window-lent)
+
+  long : length F ≡ r .fill .filled
+  long = length-take-le (r .fill .filled) w fits
+
+  some-byte : 1 ≤ m .len
+  some-byte = omega (arith, k .len-is, some-end, t .is-good .is-sane .count-search)
+
+  inside : start + m .len ≤ length F
+  inside = omega (arith, k .len-is, long, t .is-good .is-sane .search-filled, t .is-good .is-sane .start-search)
+
+  -- the record's bytes in the window
+  there : take (m .len) (drop start F) ≡ rec .bytes
+  there =
+      let rest = drop (r .fill .base .0 + r .fill .filled) X in
+      let z : m .len ≤ length (drop start F) = omega (arith, length-drop start F, inside) in
+      sym (take-append-le (m .len) (drop start F) rest z)
+      ∙ ap (take (m .len))
+      (sym (drop-append-le start F rest (omega (arith, inside)))
+      ∙ ap (drop start) (sym (t .text))
+      ∙ drop-drop start (r .fill .base .0) X
+      ∙ ap (λ (n : ℕ). drop n X) (sym (k .byte-is)))
+
+  first : (n : ℕ) → m .len ≡ suc n → rec .bytes ≡ 62 ∷ take n (drop (suc (m .byte)) X)
+  first n is =
+      ap (λ (l : ℕ). take l (drop (m .byte) X)) is
+      ∙ ap (take (suc n)) (drop-cons X (m .byte) 0 (omega (arith, f .is-right .there, some-byte)))
+      ∙ ap (λ (x : ℕ). x ∷ take n (drop (suc (m .byte)) X)) (f .is-mark)
+
+  stands : Stands F start rec es
+  stands =
+      let n = m .len - 1 in
+      let is : m .len ≡ suc n = omega (arith, some-byte) in
+      record {
+        rest = take n (drop (suc (m .byte)) X);
+        begins = first n is;
+        there = ap (λ (l : ℕ). take l (drop start F)) (right-size X m (f .is-right)) ∙ there;
+        are =
+            shift-injective (r .fill .base .0) es (endsAt start (rec .bytes) true)
+            (sym (k .ends-are)
+            ∙ f .is-right .ends-are
+            ∙ ap (λ (b : ℕ). endsAt b (rec .bytes) true) (k .byte-is)
+            ∙ ends-shift (r .fill .base .0) (rec .bytes) start true);
+      }
+
+  shown : currentOf (length w) (length e) r ≡ held start (r .fill .filled) (r .mark .count)
+  shown =
+      current-held r (length w) (length e) (sane-true r (t .is-good .is-sane)) (t .is-good .window-lent) (t .is-good .table-lent) is-here
+
+  -- what a view shows in the filled bytes, it shows in the window
+  by-view :
+      (v : List ℕ → ℕ → List ℕ → Shown) (text : Option (List ℕ)) →
+      Within (length F) (v F start es) →
+      Shows F (v F start es) text →
+      Shows w (ofCurrent r w e v refused) text
+  by-view v text inside s =
+      subst (λ (h : Held). Shows w (ofHeld w e v refused h) text) (sym shown) (shows-wider (r .fill .filled) w (v F start es) text fits inside s)
+
+  sequence : (scratch : List ℕ) → length (seqOf rec) ≤ length scratch → (l : Left) → l ≡ fullIn F start es scratch → picked w (l .scratch) (l .answer) ≡ seqOf rec
+  sequence scratch room l is = subst (λ (o : Left). picked w (o .scratch) (o .answer) ≡ seqOf rec) (sym is) (go (eqb (length (seqLines rec)) 1) refl)
+    where
+      go : (t : Bool) → eqb (length (seqLines rec)) 1 ≡ t → picked w (fullIn F start es scratch .scratch) (fullIn F start es scratch .answer) ≡ seqOf rec
+      go false u =
+          picked-wider (r .fill .filled) w start es scratch (fullIn F start es scratch .scratch) fits ∙ full-shows F start rec es stands scratch (eqb-false (length (seqLines rec)) 1 u) room
+      go true u =
+          let one = full-one-shows F start rec es stands scratch (eqb-true (length (seqLines rec)) 1 u) in
+          picked-wider (r .fill .filled) w start es scratch (fullIn F start es scratch .scratch) fits
+          ∙ ap (λ (q : List ℕ). picked F q (fullIn F start es scratch .answer)) (one .1)
+          ∙ one .0
+
+  pub gives : Gives (cutOut X m) (state r w e)
+  gives =
+      record {
+        position =
+            place-shown r (sane-true r (t .is-good .is-sane)) phase.Current (k .is-current)
+            ∙ (λ i. at (sym (k .line-is) i) (sym (k .byte-is) i));
+        head = by-view headIn (some (headOf rec)) (head-within F start es) (head-shows F start rec es stands);
+        id = by-view idIn (some (idOf (headOf rec))) (id-in F start es) (id-shows F start rec es stands);
+        desc = by-view descIn (descOf (headOf rec)) (desc-in F start es) (desc-shows F start rec es stands);
+        lines = ap (ofHeld w e (λ bytes start es. are (lineCount es)) current.refuses) shown ∙ ap are (count-is F start rec es stands);
+        line =
+            λ i h.
+            by-view (λ bytes start es. lineIn bytes start es i) (some (getD (seqLines rec) i [])) (line-in′ F start es i)
+            (line-shows F start rec es stands i h);
+        sequence =
+            λ scratch room.
+            sequence scratch room _
+            (ap (ofHeld w e (λ bytes start es. fullIn bytes start es scratch) (λ n. left (full.refuses n []) scratch)) shown);
+      }

@@ -1,0 +1,139 @@
+-- One read: whatever the phase, it asks and the same is due, or it says what is due next. Assumes nothing.
+use Prim.Native.Nat.{ℕ, _<_}
+use mathlib.Core.Bool.{Bool, true, false, not, _&&_, _||_, false≢true}
+use mathlib.Core.List.{List, [], _∷_}
+use mathlib.Core.Path.{_≡_, refl, sym, ap, subst, _∙_}
+use lib.ListN.{length}
+use lib.Dec.{eqb}
+use borrow.Author.Tests.{not-true}
+use Rattle.window.specs.Fill.{asking, ready}
+use Rattle.meaning.specs.Due as meant
+use Rattle.reader.specs.declared.state.Reader.{Reader}
+use Rattle.reader.specs.declared.state.Phase.{Phase}
+use Rattle.reader.specs.declared.state.Phase.the-variants as phase
+use Rattle.reader.specs.State.{sane, lentAs, withFill}
+use Rattle.reader.specs.Read.{Said, ends, refuses, Did, does, asked, askFor, placed, whenReady, led, soughtAt, searchedOn, hunted, behind, lasts, readIn, readOf}
+use Rattle.reader.proofs.Sanity.{and-true, sane-true}
+use Rattle.reader.proofs.ReadLaws.{waits, is-ready, on-rising, lent-true, read-repeats, read-goes}
+use Rattle.reader.proofs.Kept.{isSearching, kept-searched, kept-rising}
+use Rattle.meaning.specs.OnePass.{Mark}
+use Rattle.runs.proofs.Keeping.{by-read, read-good}
+use Rattle.runs.proofs.Tells.{Dues, dueIn, dueTo, later, Tells, Told, Rests, Says, Goes, Answers, Step, Hunts, Leads, Soughts, Behinds}
+
+-- an ask changes nothing that is due
+due-asking : (p : Phase) (X : List ℕ) (C : ℕ) (r : Reader) (e : List ℕ) → dueIn p X C (withFill (asking true (r .fill)) r) e ≡ dueIn p X C r e
+due-asking phase.Lead X C r e = refl
+due-asking phase.Sought X C r e = refl
+due-asking phase.Searching X C r e = refl
+due-asking phase.Current X C r e = refl
+due-asking phase.Ended X C r e = refl
+due-asking phase.Over X C r e = refl
+due-asking phase.Window X C r e = refl
+due-asking phase.Table X C r e = refl
+due-asking phase.Astray X C r e = refl
+
+pub as-step : {X : List ℕ} {C : ℕ} {r : Reader} {due : Dues} {d o : Did} → d ≡ o → Step X C r due o → Step X C r due d
+as-step {X} {C} {r} {due} is s = subst (Step X C r due) (sym is) s
+
+module _ (X : List ℕ) (C : ℕ) (r : Reader) (w e : List ℕ) (t : Tells X C r w e) where
+  -- a read that changes nothing
+  same-step : (s : Said) → Goes s (dueTo X C r e) X C r e → Step X C r (dueTo X C r e) (does s r w e)
+  same-step s goes =
+      record {
+        goes = goes;
+        text = t .text;
+        told = t .told;
+        largest-is = t .largest-is;
+        sought-inside = t .sought-inside;
+        same = record { reaches = refl; end-told = refl; slots-are = refl };
+        rests = λ k. k;
+      }
+
+  -- an ask, where the end was not told
+  pub asked-step : r .fill .told ≡ false → Step X C r (dueTo X C r e) (asked r w e)
+  asked-step quiet =
+      record {
+        goes = (due-asking (r .phase) X C r e, refl);
+        text = t .text;
+        told = λ is. absurd (false≢true (sym quiet ∙ is));
+        largest-is = t .largest-is;
+        sought-inside = t .sought-inside;
+        same = record { reaches = refl; end-told = refl; slots-are = refl };
+        rests = λ k. record { at-front = k .at-front; all-slots = k .all-slots };
+      }
+
+  not-told : ready (r .fill) ≡ false → r .fill .told ≡ false
+  not-told = go (r .fill .told) (eqb (r .fill .filled) (r .fill .capacity))
+    where
+      go : (u v : Bool) → (u || v) ≡ false → u ≡ false
+      go true v is = is
+      go false v is = refl
+
+  ready-step :
+      (f : Reader → List ℕ → List ℕ → Did) →
+      (ready (r .fill) ≡ true → Step X C r (dueTo X C r e) (f r w e)) →
+      Step X C r (dueTo X C r e) (whenReady f r w e)
+  ready-step f then′ = go (ready (r .fill)) refl
+    where
+      go : (u : Bool) → ready (r .fill) ≡ u → Step X C r (dueTo X C r e) (whenReady f r w e)
+      go true u = as-step (is-ready f r w e u) (then′ u)
+      go false u = as-step (waits f r w e u) (asked-step (not-told u))
+
+  -- the last answer, which repeats
+  last-step : (s : Said) (a : meant.Said Mark) (p : Phase) → r .phase ≡ p → dueIn p X C r e ≡ a ∷ [] → Says s a r e → Answers s (dueTo X C r e) X C r e
+  last-step s a p is one says =
+      let due-is : dueTo X C r e ≡ a ∷ [] = ap (λ (q : Phase). dueIn q X C r e) is ∙ one in
+      record { first = a; rest = []; due-is = due-is; says = says; then-due = due-is ∙ sym (ap later due-is) }
+
+module _ (hunts : Hunts) (leads : Leads) (soughts : Soughts) (behinds : Behinds) where
+  module _ (X : List ℕ) (C : ℕ) (r : Reader) (w e : List ℕ) (t : Tells X C r w e) where
+    in-phase : (p : Phase) → r .phase ≡ p → {due : Dues} → dueTo X C r e ≡ due → {d : Did} → Step X C r (dueIn p X C r e) d → Step X C r due d
+    in-phase p is {due} same {d} s =
+        subst (λ (o : Dues). Step X C r o d) (sym (ap (λ (q : Phase). dueIn q X C r e) is) ∙ same) s
+
+    -- a record that is searched on: its ends rise
+    on-step : r .phase ≡ phase.Searching → ready (r .fill) ≡ true → Step X C r (dueIn phase.Searching X C r e) (searchedOn r w e)
+    on-step is full =
+        let k = kept-searched {own = true} r w e (t .is-good) (t .is-behind (ap isSearching is)) in
+        as-step (on-rising r w e (kept-rising r w e k refl)) (hunts X C r w e t is full)
+
+    by-phase : (p : Phase) → r .phase ≡ p → Step X C r (dueTo X C r e) (readIn p r w e)
+    by-phase phase.Lead is = ready-step X C r w e t led (λ full. in-phase phase.Lead is refl (leads X C r w e t is full))
+    by-phase phase.Sought is = ready-step X C r w e t soughtAt (λ full. in-phase phase.Sought is refl (soughts X C r w e t is full))
+    by-phase phase.Searching is = ready-step X C r w e t searchedOn (λ full. in-phase phase.Searching is refl (on-step is full))
+    by-phase phase.Current is = in-phase phase.Current is refl (behinds X C r w e t is)
+    by-phase phase.Ended is = same-step X C r w e t ends (last-step X C r w e t ends meant.ends phase.Ended is refl tt)
+    by-phase phase.Over is = same-step X C r w e t ends (last-step X C r w e t ends meant.ends phase.Over is refl tt)
+    by-phase phase.Window is =
+        same-step X C r w e t (refuses 3 (placed r)) (last-step X C r w e t (refuses 3 (placed r)) (meant.refuses 3 (placed r)) phase.Window is refl (refl, refl))
+    by-phase phase.Table is =
+        same-step X C r w e t (refuses 4 (placed r)) (last-step X C r w e t (refuses 4 (placed r)) (meant.refuses 4 (placed r)) phase.Table is refl (refl, refl))
+    by-phase phase.Astray is =
+        same-step X C r w e t (refuses 5 []) (last-step X C r w e t (refuses 5 []) (meant.refuses 5 []) phase.Astray is refl (refl, refl))
+
+    fine : sane r ≡ true
+    fine = sane-true r (t .is-good .is-sane)
+
+    lent : lentAs r (length w) (length e) ≡ true
+    lent = lent-true r w e (t .is-good .window-lent) (t .is-good .table-lent)
+
+    pub steps : Step X C r (dueTo X C r e) (readOf r w e)
+    steps = go (not (lasts (r .phase)) && r .fill .asking) refl
+      where
+        go : (u : Bool) → (not (lasts (r .phase)) && r .fill .asking) ≡ u → Step X C r (dueTo X C r e) (readOf r w e)
+        go true u =
+            let both = and-true (not (lasts (r .phase))) (r .fill .asking) u in
+            as-step (read-repeats r w e fine lent (not-true (lasts (r .phase)) (both .0)) (both .1)) (same-step X C r w e t (askFor r) (refl, both .1))
+        go false u = as-step (read-goes r w e fine lent u) (by-phase (r .phase) refl)
+
+    -- and the relation holds again
+    pub still-tells : Tells X C (readOf r w e .reader) (readOf r w e .window) (readOf r w e .table)
+    still-tells =
+        record {
+          is-good = read-good r w e (t .is-good) (t .is-behind);
+          is-behind = by-read r w e (t .is-good) (t .is-behind);
+          sought-inside = steps .sought-inside;
+          text = steps .text;
+          told = steps .told;
+          largest-is = steps .largest-is;
+        }
