@@ -94,7 +94,7 @@ as-done {own} {d} {o} is k = subst (λ (x : Did). Keeps own x) (sym is) k
 
 module _ (r : Reader) (w e : List ℕ) where
   -- the filled bytes
-  filled-bytes : Good r w e → length (take (r .fill .filled) w) ≡ r .fill .filled
+  pub filled-bytes : Good r w e → length (take (r .fill .filled) w) ≡ r .fill .filled
   filled-bytes g =
       let v = g .is-sane .window-sound in
       length-take-le (r .fill .filled) w (omega (arith, v .filled-fits, v .capacity-fits, g .window-lent))
@@ -145,7 +145,7 @@ module _ (r : Reader) (w e : List ℕ) where
 
 module _ {own : Bool} (r : Reader) (w e : List ℕ) where
   -- nothing is recorded yet
-  begun-behind : r .mark .count ≡ 0 → Behind own (r .mark) e
+  pub begun-behind : r .mark .count ≡ 0 → Behind own (r .mark) e
   unfolding Rises
   begun-behind z = record { count-behind = omega arith; ends-behind = λ o. rw z (omega arith) }
 
