@@ -94,7 +94,7 @@ as-done {own} {d} {o} is k = subst (λ (x : Did). Keeps own x) (sym is) k
 
 module _ (r : Reader) (w e : List ℕ) where
   -- the filled bytes
-  pub filled-bytes : Good r w e → length (take (r .fill .filled) w) ≡ r .fill .filled
+  filled-bytes : Good r w e → length (take (r .fill .filled) w) ≡ r .fill .filled
   filled-bytes g =
       let v = g .is-sane .window-sound in
       length-take-le (r .fill .filled) w (omega (arith, v .filled-fits, v .capacity-fits, g .window-lent))

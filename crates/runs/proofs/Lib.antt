@@ -1,3 +1,6 @@
 -- Theorems about all runs of a reader, and the steps to them.
+pub mod Begun
+pub mod Lead
 pub mod LeadBytes
+pub mod Sought
 pub mod Tells
