@@ -17,13 +17,13 @@ use Rattle.scan.specs.Search.{Lead, blank, leadAt}
 use Rattle.scan.proofs.LineLaws.{one, two}
 
 -- the clauses of the definition
-clause-one :
+pub clause-one :
     (x i n : ℕ) →
     leadAt (x ∷ []) i n ≡ elim (eqb x 10) [ true ↦ blank (suc i) (suc n) true | false ↦ blank i n (eqb x 13) ]
 unfolding leadAt
 clause-one x i n = refl
 
-clause-two :
+pub clause-two :
     (x y : ℕ) (r : List ℕ) (i n : ℕ) →
     leadAt (x ∷ y ∷ r) i n
     ≡ elim (eqb x 10) [
