@@ -2,16 +2,19 @@
 -- that begins in the window. Assumes nothing.
 use Prim.Native.Nat.{ℕ, suc, _+_, _-_, _≤_, _<_, max}
 use native.Mathlib.Omega.{arith}
-use mathlib.Core.Bool.{true, false, false≢true}
+use mathlib.Core.Bool.{Bool, true, false, _||_, false≢true}
 use mathlib.Core.List.{List, [], _∷_, _++_}
 use mathlib.Core.Path.{_≡_, refl, sym, ap, subst, _∙_}
 use lib.ListN.{length, getD, take, drop, length-drop}
 use lib.Seq.{length-take-le, drop-cons, getD-take, drop-drop, drop-append-le, take-add, take-at, drop-at}
+use lib.Dec.{eqb}
+use borrow.Author.Tests.{eqb-true}
 use Rattle.meaning.specs.OnePass.{marks}
 use Rattle.meaning.proofs.OnePass.{at-cons}
 use Rattle.scan.specs.Move.{movedDown}
 use Rattle.scan.proofs.MoveLaws.{moved-down-within}
 use Rattle.window.specs.Fill.{ready}
+use Rattle.window.specs.declared.fill.Fill.{Fill}
 use Rattle.reader.specs.declared.state.Reader.{Reader}
 use Rattle.reader.specs.declared.state.Mark.{Mark}
 use Rattle.reader.specs.declared.state.Phase.{Phase}
@@ -19,7 +22,7 @@ use Rattle.reader.specs.declared.state.Phase.the-variants as phase
 use Rattle.reader.specs.State.{Good, inPhase, withMark, markAt}
 use Rattle.reader.specs.Read.{Said, Did, does, hunted, beginsAt}
 use Rattle.reader.proofs.Kept.{begun-behind}
-use Rattle.runs.proofs.Tells.{Dues, judge, fromHere, unlessOver, dueIn, isSought, Told, Tells, Goes, Step, Hunts}
+use Rattle.runs.proofs.Tells.{Dues, judge, fromHere, unlessOver, dueIn, isSought, isWindow, isTable, Told, Tells, Rests, Goes, Step, Hunts}
 
 -- a window over the input from place a on, of which the first m bytes are filled
 module _ (X w : List ℕ) (a m : ℕ) (text : drop a X ≡ take m w ++ drop (a + m) X) (fits : m ≤ length w) where
@@ -57,6 +60,21 @@ module _ (X w : List ℕ) (a m : ℕ) (text : drop a X ≡ take m w ++ drop (a +
       ∙ ap (λ (ys : List ℕ). ys ++ drop (a + m) X) (front ∙ sym moved)
       ∙ ap (λ (k : ℕ). take (m - n) (movedDown n m w) ++ drop k X) end
 
+-- a reader that is not refused has nothing of a refusal to leave
+pub at-rest : (r : Reader) → isWindow (r .phase) ≡ false → isTable (r .phase) ≡ false → Rests r
+at-rest r a b = record { at-front = λ is. absurd (false≢true (sym a ∙ is)); all-slots = λ is. absurd (false≢true (sym b ∙ is)) }
+
+-- a window that is ready is full, or its end was told
+pub ready-full : (f : Fill) → ready f ≡ true → f .told ≡ false → f .filled ≡ f .capacity
+ready-full f t u = eqb-true (f .filled) (f .capacity) (sym (ap (λ (o : Bool). o || eqb (f .filled) (f .capacity)) u) ∙ t)
+
+pub unready-told : (f : Fill) → ready f ≡ false → f .told ≡ false
+unready-told f t = go (f .told) (eqb (f .filled) (f .capacity)) t
+  where
+    go : (u v : Bool) → (u || v) ≡ false → u ≡ false
+    go true v no′ = no′
+    go false v no′ = refl
+
 -- a record begins at a `>`
 pub from-mark : (X : List ℕ) (C T l b : ℕ) (xs : List ℕ) → drop b X ≡ 62 ∷ xs → fromHere X C T l b (suc b) [] ≡ judge C T (marks l b (suc b) [] xs false)
 from-mark X C T l b xs e =
@@ -93,15 +111,17 @@ module _ (X : List ℕ) (C : ℕ) (r : Reader) (w e : List ℕ) (t : Tells X C r
       record { is-all = known .is-all; has-room = known .has-room; is-quiet = known .is-quiet }
 
   -- a read that leaves all but the phase
-  pub step-rests : (s : Said) (p : Phase) (due : Dues) → isSought p ≡ false → Goes s due X C (inPhase p r) e → Step X C r due (does s (inPhase p r) w e)
-  step-rests s p due no′ goes =
+  pub step-rests :
+      (s : Said) (p : Phase) (due : Dues) → isSought p ≡ false → Rests (inPhase p r) → Goes s due X C (inPhase p r) e → Step X C r due (does s (inPhase p r) w e)
+  step-rests s p due no′ rests goes =
       record {
         goes = goes;
         text = t .text;
         told = told-with (r .mark) p;
         largest-is = t .largest-is;
         sought-inside = λ is. absurd (false≢true (sym no′ ∙ is));
-        same = record { reaches = refl; end-told = refl };
+        same = record { reaches = refl; end-told = refl; slots-are = refl };
+        rests = λ k. rests;
       }
 
   -- a search of a record that begins in the window
@@ -130,5 +150,6 @@ module _ (X : List ℕ) (C : ℕ) (r : Reader) (w e : List ℕ) (t : Tells X C r
           told = s .told;
           largest-is = s .largest-is;
           sought-inside = s .sought-inside;
-          same = record { reaches = s .same .reaches; end-told = s .same .end-told };
+          same = record { reaches = s .same .reaches; end-told = s .same .end-told; slots-are = s .same .slots-are };
+          rests = λ k. s .rests (at-rest (beginsAt start line r) refl refl);
         })

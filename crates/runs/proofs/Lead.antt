@@ -19,12 +19,12 @@ use Rattle.window.proofs.Laws.{sound-slid, sound-slid-window}
 use Rattle.reader.specs.declared.state.Reader.{Reader}
 use Rattle.reader.specs.declared.state.Phase.{Phase}
 use Rattle.reader.specs.declared.state.Phase.the-variants as phase
-use Rattle.reader.specs.State.{byteOf, withFill, withMark, markAt}
+use Rattle.reader.specs.State.{byteOf, withFill, withMark, inPhase, markAt}
 use Rattle.reader.specs.Read.{ends, refuses, asked, ledTo, leadOn, LeadIn}
 use Rattle.reader.proofs.ReadLaws.{led-by, led-on, led-mark, led-refused, lead-over, lead-asks, lead-in, lead-begins}
-use Rattle.runs.proofs.Tells.{Dues, judge, dueIn, isSought, Tells, Step, Hunts, Leads}
+use Rattle.runs.proofs.Tells.{Dues, judge, dueIn, isSought, isTable, Tells, Step, Hunts, Leads}
 use Rattle.runs.proofs.LeadBytes.{firstLine, Meets, lead-meets}
-use Rattle.runs.proofs.Begun.{text-from, text-byte, text-slid, from-mark, step-as, window-fits, at-end, step-rests, begun-step}
+use Rattle.runs.proofs.Begun.{at-rest, text-from, text-byte, text-slid, from-mark, step-as, window-fits, at-end, step-rests, begun-step}
 
 -- what is due for what one pass found
 module _ (C T : ℕ) where
@@ -70,7 +70,7 @@ module _ (X : List ℕ) (C : ℕ) (r : Reader) (w e : List ℕ) (t : Tells X C r
   over : stop .undecided ≡ true → r .fill .told ≡ true → Step X C r due (leadOn stop r w e)
   over open′ told =
       step-as (ap (dueMarks C (r .slots)) (meets .is-over open′ (at-end X C r w e t told)) ∙ due-none C (r .slots)) (lead-over r w e stop told)
-      (step-rests X C r w e t ends phase.Over (meant.ends ∷ []) refl
+      (step-rests X C r w e t ends phase.Over (meant.ends ∷ []) refl (at-rest (inPhase phase.Over r) refl refl)
       (record { first = meant.ends; rest = []; due-is = refl; says = tt; then-due = refl }))
 
   -- blank lines that fill the window
@@ -94,7 +94,8 @@ module _ (X : List ℕ) (C : ℕ) (r : Reader) (w e : List ℕ) (t : Tells X C r
         told = λ yes′. absurd (false≢true (sym told ∙ yes′));
         largest-is = t .largest-is;
         sought-inside = λ at. absurd (false≢true (ap isSought (sym is) ∙ at));
-        same = record { reaches = omega arith; end-told = refl };
+        same = record { reaches = omega arith; end-told = refl; slots-are = refl };
+        rests = λ k. record { at-front = λ at. refl; all-slots = λ at. absurd (false≢true (ap isTable (sym is) ∙ at)) };
       })
 
   -- a line that is not blank
@@ -127,12 +128,12 @@ module _ (X : List ℕ) (C : ℕ) (r : Reader) (w e : List ℕ) (t : Tells X C r
         step-as
         (due-there ∙ due-refused C (r .slots) line (base + stop .at) first (drop (suc (base + stop .at)) X) other)
         (led-refused r w e stop shut other)
-        (step-rests X C r w e t (refuses 2 values) phase.Over (meant.refuses 2 values ∷ meant.ends ∷ []) refl
+        (step-rests X C r w e t (refuses 2 values) phase.Over (meant.refuses 2 values ∷ meant.ends ∷ []) refl (at-rest (inPhase phase.Over r) refl refl)
         (record {
           first = meant.refuses 2 values;
           rest = meant.ends ∷ [];
           due-is = refl;
-          says = (refl, (refl, (λ q. absurd (omega arith), λ q. absurd (omega arith))));
+          says = (refl, refl);
           then-due = refl;
         }))
 

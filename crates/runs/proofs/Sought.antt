@@ -14,26 +14,14 @@ use borrow.Author.Tests.{eqb-true, eqb-false, ne-eqb, le-ltb}
 use Rattle.meaning.specs.OnePass.{marks}
 use Rattle.meaning.specs.Due as meant
 use Rattle.window.specs.Fill.{ready}
-use Rattle.window.specs.declared.fill.Fill.{Fill}
 use Rattle.reader.specs.declared.state.Reader.{Reader}
 use Rattle.reader.specs.declared.state.Phase.the-variants as phase
-use Rattle.reader.specs.State.{byteOf}
+use Rattle.reader.specs.State.{byteOf, inPhase}
 use Rattle.reader.specs.Read.{ends, refuses, asked, hunted, passed, whenReady, soughtAt, behind}
 use Rattle.reader.proofs.Sanity.{and-true}
 use Rattle.reader.proofs.ReadLaws.{begins-good, passed-good, sought-mark, sought-astray, behind-ended, behind-next, waits, is-ready, neither}
-use Rattle.runs.proofs.Tells.{judge, unlessOver, atSought, dueIn, isSought, Tells, Step, Hunts}
-use Rattle.runs.proofs.Begun.{text-byte, from-mark, step-as, begun-due, window-fits, at-end, step-rests, begun-step}
-
--- a window that is ready is full, or its end was told
-ready-full : (f : Fill) → ready f ≡ true → f .told ≡ false → f .filled ≡ f .capacity
-ready-full f t u = eqb-true (f .filled) (f .capacity) (sym (ap (λ (o : Bool). o || eqb (f .filled) (f .capacity)) u) ∙ t)
-
-unready-told : (f : Fill) → ready f ≡ false → f .told ≡ false
-unready-told f t = go (f .told) (eqb (f .filled) (f .capacity)) t
-  where
-    go : (u v : Bool) → (u || v) ≡ false → u ≡ false
-    go true v no′ = no′
-    go false v no′ = refl
+use Rattle.runs.proofs.Tells.{judge, unlessOver, atSought, dueIn, isSought, Tells, Step, Hunts, Soughts, Behinds}
+use Rattle.runs.proofs.Begun.{at-rest, ready-full, unready-told, text-byte, from-mark, step-as, begun-due, window-fits, at-end, step-rests, begun-step}
 
 module _ (X : List ℕ) (C : ℕ) (r : Reader) (w e : List ℕ) (t : Tells X C r w e) where
   abbrev base : ℕ
@@ -84,12 +72,12 @@ module _ (X : List ℕ) (C : ℕ) (r : Reader) (w e : List ℕ) (t : Tells X C r
       Step X C r (dueIn phase.Sought X C r e) (soughtAt r w e)
   astray due no′ =
       step-as due (sought-astray r w e no′)
-      (step-rests X C r w e t (refuses 5 []) phase.Astray (meant.refuses 5 [] ∷ []) refl
+      (step-rests X C r w e t (refuses 5 []) phase.Astray (meant.refuses 5 [] ∷ []) refl (at-rest (inPhase phase.Astray r) refl refl)
       (record {
         first = meant.refuses 5 [];
         rest = [];
         due-is = refl;
-        says = (refl, (refl, (λ q. absurd (omega arith), λ q. absurd (omega arith))));
+        says = (refl, refl);
         then-due = refl;
       }))
 
@@ -101,7 +89,7 @@ module _ (X : List ℕ) (C : ℕ) (r : Reader) (w e : List ℕ) (t : Tells X C r
       (ap (λ (xs : List ℕ). unlessOver xs (judge C (r .slots) (marks (r .mark .line + r .mark .count) b (suc b) [] (drop (suc b) X) false)))
       (ap (λ (n : ℕ). drop (base + n) X) at ∙ at-end X C r w e t told))
       (behind-ended r w e told at)
-      (step-rests X C r w e t ends phase.Ended (meant.ends ∷ []) refl
+      (step-rests X C r w e t ends phase.Ended (meant.ends ∷ []) refl (at-rest (inPhase phase.Ended r) refl refl)
       (record { first = meant.ends; rest = []; due-is = refl; says = tt; then-due = refl }))
 
   -- the next record waits for a full window or the end
@@ -113,7 +101,8 @@ module _ (X : List ℕ) (C : ℕ) (r : Reader) (w e : List ℕ) (t : Tells X C r
         told = λ is. absurd (false≢true (sym (unready-told (r .fill) no′) ∙ is));
         largest-is = t .largest-is;
         sought-inside = λ is. absurd (false≢true is);
-        same = record { reaches = refl; end-told = refl };
+        same = record { reaches = refl; end-told = refl; slots-are = refl };
+        rests = λ k. at-rest (passed r) refl refl;
       }
 
   behind-goes : Hunts → Step X C r (dueIn phase.Current X C r e) (whenReady hunted (passed r) w e)
@@ -126,13 +115,7 @@ module _ (X : List ℕ) (C : ℕ) (r : Reader) (w e : List ℕ) (t : Tells X C r
       go false o = step-as refl (waits hunted (passed r) w e o) (behind-waits o)
 
 -- a read after a seek, in a window that is full or at the told end
-pub soughts :
-    Hunts →
-    (X : List ℕ) (C : ℕ) (r : Reader) (w e : List ℕ) →
-    Tells X C r w e →
-    r .phase ≡ phase.Sought →
-    ready (r .fill) ≡ true →
-    Step X C r (dueIn phase.Sought X C r e) (soughtAt r w e)
+pub soughts : Hunts → Soughts
 soughts hunts X C r w e t is full = go (decLe (r .fill .filled) (r .mark .start .0)) (eqb (getD w (r .mark .start .0) 0) 62) refl
   where
     test : Bool
@@ -152,12 +135,7 @@ soughts hunts X C r w e t is full = go (decLe (r .fill .filled) (r .mark .start 
         (neither test (eqb (getD w (r .mark .start .0) 0) 62) (inr x))
 
 -- a read behind a current record
-pub behinds :
-    Hunts →
-    (X : List ℕ) (C : ℕ) (r : Reader) (w e : List ℕ) →
-    Tells X C r w e →
-    r .phase ≡ phase.Current →
-    Step X C r (dueIn phase.Current X C r e) (behind r w e)
+pub behinds : Hunts → Behinds
 behinds hunts X C r w e t is = go (r .fill .told && eqb (r .mark .search .0) (r .fill .filled)) refl
   where
     go : (o : Bool) → (r .fill .told && eqb (r .mark .search .0) (r .fill .filled)) ≡ o → Step X C r (dueIn phase.Current X C r e) (behind r w e)

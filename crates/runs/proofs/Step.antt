@@ -18,6 +18,7 @@ use Rattle.reader.proofs.ReadLaws.{waits, is-ready, on-rising, lent-true, read-
 use Rattle.reader.proofs.Kept.{isSearching, kept-searched, kept-rising}
 use Rattle.meaning.specs.OnePass.{Mark}
 use Rattle.runs.proofs.Keeping.{by-read, read-good}
+use Rattle.runs.proofs.Begun.{step-as, unready-told}
 use Rattle.runs.proofs.Tells.{Dues, dueIn, dueTo, later, Tells, Told, Rests, Says, Goes, Answers, Step, Hunts, Leads, Soughts, Behinds}
 
 -- an ask changes nothing that is due
@@ -31,9 +32,6 @@ due-asking phase.Over X C r e = refl
 due-asking phase.Window X C r e = refl
 due-asking phase.Table X C r e = refl
 due-asking phase.Astray X C r e = refl
-
-pub as-step : {X : List ℕ} {C : ℕ} {r : Reader} {due : Dues} {d o : Did} → d ≡ o → Step X C r due o → Step X C r due d
-as-step {X} {C} {r} {due} is s = subst (Step X C r due) (sym is) s
 
 module _ (X : List ℕ) (C : ℕ) (r : Reader) (w e : List ℕ) (t : Tells X C r w e) where
   -- a read that changes nothing
@@ -62,13 +60,6 @@ module _ (X : List ℕ) (C : ℕ) (r : Reader) (w e : List ℕ) (t : Tells X C r
         rests = λ k. record { at-front = k .at-front; all-slots = k .all-slots };
       }
 
-  not-told : ready (r .fill) ≡ false → r .fill .told ≡ false
-  not-told = go (r .fill .told) (eqb (r .fill .filled) (r .fill .capacity))
-    where
-      go : (u v : Bool) → (u || v) ≡ false → u ≡ false
-      go true v is = is
-      go false v is = refl
-
   ready-step :
       (f : Reader → List ℕ → List ℕ → Did) →
       (ready (r .fill) ≡ true → Step X C r (dueTo X C r e) (f r w e)) →
@@ -76,8 +67,8 @@ module _ (X : List ℕ) (C : ℕ) (r : Reader) (w e : List ℕ) (t : Tells X C r
   ready-step f then′ = go (ready (r .fill)) refl
     where
       go : (u : Bool) → ready (r .fill) ≡ u → Step X C r (dueTo X C r e) (whenReady f r w e)
-      go true u = as-step (is-ready f r w e u) (then′ u)
-      go false u = as-step (waits f r w e u) (asked-step (not-told u))
+      go true u = step-as refl (is-ready f r w e u) (then′ u)
+      go false u = step-as refl (waits f r w e u) (asked-step (unready-told (r .fill) u))
 
   -- the last answer, which repeats
   last-step : (s : Said) (a : meant.Said Mark) (p : Phase) → r .phase ≡ p → dueIn p X C r e ≡ a ∷ [] → Says s a r e → Answers s (dueTo X C r e) X C r e
@@ -95,7 +86,7 @@ module _ (hunts : Hunts) (leads : Leads) (soughts : Soughts) (behinds : Behinds)
     on-step : r .phase ≡ phase.Searching → ready (r .fill) ≡ true → Step X C r (dueIn phase.Searching X C r e) (searchedOn r w e)
     on-step is full =
         let k = kept-searched {own = true} r w e (t .is-good) (t .is-behind (ap isSearching is)) in
-        as-step (on-rising r w e (kept-rising r w e k refl)) (hunts X C r w e t is full)
+        step-as refl (on-rising r w e (kept-rising r w e k refl)) (hunts X C r w e t is full)
 
     by-phase : (p : Phase) → r .phase ≡ p → Step X C r (dueTo X C r e) (readIn p r w e)
     by-phase phase.Lead is = ready-step X C r w e t led (λ full. in-phase phase.Lead is refl (leads X C r w e t is full))
@@ -123,8 +114,8 @@ module _ (hunts : Hunts) (leads : Leads) (soughts : Soughts) (behinds : Behinds)
         go : (u : Bool) → (not (lasts (r .phase)) && r .fill .asking) ≡ u → Step X C r (dueTo X C r e) (readOf r w e)
         go true u =
             let both = and-true (not (lasts (r .phase))) (r .fill .asking) u in
-            as-step (read-repeats r w e fine lent (not-true (lasts (r .phase)) (both .0)) (both .1)) (same-step X C r w e t (askFor r) (refl, both .1))
-        go false u = as-step (read-goes r w e fine lent u) (by-phase (r .phase) refl)
+            step-as refl (read-repeats r w e fine lent (not-true (lasts (r .phase)) (both .0)) (both .1)) (same-step X C r w e t (askFor r) (refl, both .1))
+        go false u = step-as refl (read-goes r w e fine lent u) (by-phase (r .phase) refl)
 
     -- and the relation holds again
     pub still-tells : Tells X C (readOf r w e .reader) (readOf r w e .window) (readOf r w e .table)
