@@ -11,3 +11,4 @@ pub mod Fine
 pub mod Within
 pub mod Given
 pub mod Reached
+pub mod Demand

@@ -102,7 +102,7 @@ module _ (X : List ℕ) (C : ℕ) (r : Reader) (w e : List ℕ) (t : Tells X C r
         largest-is = t .largest-is;
         sought-inside = λ is. absurd (false≢true is);
         same = record { reaches = refl; end-told = refl; slots-are = refl };
-        rests = λ k. at-rest (passed r) refl refl;
+        rests = λ k. at-rest (asked (passed r) w e .reader) refl refl;
       }
 
   behind-goes : Hunts → Step X C r (dueIn phase.Current X C r e) (whenReady hunted (passed r) w e)
