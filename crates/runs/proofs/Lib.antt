@@ -1,2 +1,3 @@
 -- Theorems about all runs of a reader, and the steps to them.
 pub mod Tells
+pub mod SearchMarks
