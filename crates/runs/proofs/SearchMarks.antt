@@ -30,9 +30,19 @@ pub record First (l b p q : ℕ) (E : List ℕ) (ms : List Mark) : Type 0 where
   pub ends-are : head .ends ≡ E ++ fresh
   pub fresh-late : (k : ℕ) → k < length fresh → q ≤ getD fresh k 0
 
+-- behind the ends so far, none stands before q
+pub first-late : (l b p q : ℕ) (E : List ℕ) (ms : List Mark) (f : First l b p q E ms) (k : ℕ) → length E ≤ k → k < length (f .head .ends) → q ≤ getD (f .head .ends) k 0
+first-late l b p q E ms f k h u =
+    let j = k - length E in
+    let sum : length E + j ≡ k = omega arith in
+    let inside : j < length (f .fresh) = omega (arith, ap length (f .ends-are), length-append E (f .fresh)) in
+    let is : getD (f .head .ends) k 0 ≡ getD (f .fresh) j 0 =
+    (λ i. getD (f .ends-are i) (sym sum i) 0) ∙ getD-append-add E (f .fresh) j 0 in
+    omega (arith, f .fresh-late j inside)
+
 -- a record that ends at p, with one end more
-last : (l b p q z : ℕ) (E : List ℕ) (ms : List Mark) → q ≤ z → First l b p q E (record { line = l; byte = b; len = p - b; ends = E ++ (z ∷ []) } ∷ ms)
-last l b p q z E ms h =
+first-last : (l b p q z : ℕ) (E : List ℕ) (ms : List Mark) → q ≤ z → First l b p q E (record { line = l; byte = b; len = p - b; ends = E ++ (z ∷ []) } ∷ ms)
+first-last l b p q z E ms h =
     record {
       head = record { line = l; byte = b; len = p - b; ends = E ++ (z ∷ []) };
       tail = ms;
@@ -50,8 +60,8 @@ last l b p q z E ms h =
     one (suc k) u = absurd (omega arith)
 
 -- a byte is passed, with an end recorded or without one
-later : (l b p q : ℕ) (E : List ℕ) (ms : List Mark) → First l b (suc p) q E ms → First l b p q E ms
-later l b p q E ms f =
+first-past : (l b p q : ℕ) (E : List ℕ) (ms : List Mark) → First l b (suc p) q E ms → First l b p q E ms
+first-past l b p q E ms f =
     record {
       head = f .head;
       tail = f .tail;
@@ -64,8 +74,8 @@ later l b p q E ms f =
       fresh-late = f .fresh-late;
     }
 
-ended : (l b p q z : ℕ) (E : List ℕ) (ms : List Mark) → q ≤ z → First l b p q (E ++ (z ∷ [])) ms → First l b p q E ms
-ended l b p q z E ms h f =
+first-ended : (l b p q z : ℕ) (E : List ℕ) (ms : List Mark) → q ≤ z → First l b p q (E ++ (z ∷ [])) ms → First l b p q E ms
+first-ended l b p q z E ms h f =
     record {
       head = f .head;
       tail = f .tail;
@@ -82,16 +92,16 @@ ended l b p q z E ms h f =
     more zero u = h
     more (suc k) u = f .fresh-late k (le-of-suc-le-suc u)
 
-late-least : (t : Bool) → late t ≤ 1
+pub late-least : (t : Bool) → late t ≤ 1
 late-least true = omega arith
 late-least false = omega arith
 
 pub first : (xs : List ℕ) (held : Bool) (l b p q : ℕ) (E : List ℕ) → q + late held ≤ p → First l b p q E (marks l b p E xs held)
 unfolding marks
-first [] false l b p q E h = last l b p q p E [] (omega arith)
-first [] true l b p q E h = last l b p q (pred p) E [] (omega arith)
+first [] false l b p q E h = first-last l b p q p E [] (omega arith)
+first [] true l b p q E h = first-last l b p q (pred p) E [] (omega arith)
 first (x ∷ xs) false l b p q E h =
-    later l b p q E (marks l b (suc p) E xs (eqb x 10))
+    first-past l b p q E (marks l b (suc p) E xs (eqb x 10))
     (first xs (eqb x 10) l b (suc p) q E (omega (arith, late-least (eqb x 10))))
 first (x ∷ xs) true l b p q E h =
     go (eqb x 62) refl (first xs (eqb x 10) l b (suc p) q (E ++ (pred p ∷ [])) (omega (arith, late-least (eqb x 10))))
@@ -101,11 +111,11 @@ first (x ∷ xs) true l b p q E h =
 
     go : (t : Bool) → eqb x 62 ≡ t → First l b (suc p) q (E ++ (pred p ∷ [])) (marks l b (suc p) (E ++ (pred p ∷ [])) xs (eqb x 10))
         → First l b p q E (marks l b p E (x ∷ xs) true)
-    go true t on = rw (t, marks) (last l b p q (pred p) E (marks (l + suc (length E)) p (suc p) [] xs false) before)
+    go true t on = rw (t, marks) (first-last l b p q (pred p) E (marks (l + suc (length E)) p (suc p) [] xs false) before)
     go false t on =
         rw (t, marks)
-        (later l b p q E (marks l b (suc p) (E ++ (pred p ∷ [])) xs (eqb x 10))
-        (ended l b (suc p) q (pred p) E (marks l b (suc p) (E ++ (pred p ∷ [])) xs (eqb x 10)) before on))
+        (first-past l b p q E (marks l b (suc p) (E ++ (pred p ∷ [])) xs (eqb x 10))
+        (first-ended l b (suc p) q (pred p) E (marks l b (suc p) (E ++ (pred p ∷ [])) xs (eqb x 10)) before on))
 
 -- the steps of one pass over a byte inside a line, and over a `\n` by the byte behind it
 module _ (l b p : ℕ) (E : List ℕ) (x : ℕ) where
@@ -345,3 +355,14 @@ module _ (X : List ℕ) (base top l b : ℕ) where
           let s : n < length e = slot-left T n (length e) f in
           sees-as (found-line x y (r ++ drop (base + top) X) i n e is t s m) (search-line T x y r i n e t f m)
           (on (suc n) (set e n i) (omega (arith, length-set e n i)))
+
+-- where the input ends with the filled bytes, the record ends with them; its last end is where the search stopped
+pub closes : (l b base at top : ℕ) (E : List ℕ) (held : Bool) → at + late held ≡ top
+    → marks l b (base + top) E [] held ≡ record { line = l; byte = b; len = base + top - b; ends = E ++ ((base + at) ∷ []) } ∷ []
+unfolding marks
+closes l b base at top E false h =
+    let z : base + top ≡ base + at = omega arith in
+    ap (λ (k : ℕ). record { line = l; byte = b; len = base + top - b; ends = E ++ (k ∷ []) } ∷ []) z
+closes l b base at top E true h =
+    let z : pred (base + top) ≡ base + at = omega arith in
+    ap (λ (k : ℕ). record { line = l; byte = b; len = base + top - b; ends = E ++ (k ∷ []) } ∷ []) z
