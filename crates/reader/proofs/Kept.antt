@@ -94,7 +94,7 @@ as-done {own} {d} {o} is k = subst (λ (x : Did). Keeps own x) (sym is) k
 
 module _ (r : Reader) (w e : List ℕ) where
   -- the filled bytes
-  filled-bytes : Good r w e → length (take (r .fill .filled) w) ≡ r .fill .filled
+  pub filled-bytes : Good r w e → length (take (r .fill .filled) w) ≡ r .fill .filled
   filled-bytes g =
       let v = g .is-sane .window-sound in
       length-take-le (r .fill .filled) w (omega (arith, v .filled-fits, v .capacity-fits, g .window-lent))
@@ -390,12 +390,12 @@ module _ {own : Bool} (r : Reader) (w e : List ℕ) (g : Good r w e) (h : Behind
   bytes : length (take (r .fill .filled) w) ≡ r .fill .filled
   bytes = filled-bytes r w e g
 
-  finds : Found (take (r .fill .filled) w) from (r .mark .count) (r .slots) e (found .out) (found .ends)
+  pub finds : Found (take (r .fill .filled) w) from (r .mark .count) (r .slots) e (found .out) (found .ends)
   finds =
       search-found (take (r .fill .filled) w) 62 (r .slots) from (r .mark .count) e (found .out) (found .ends) (omega (arith, bytes))
       (g .is-sane .count-slots) (le-of-eq (g .table-lent)) refl
 
-  stops : Stopped (take (r .fill .filled) w) (r .mark .count) (r .slots) 62 (found .out) (found .ends) (found .out .stop)
+  pub stops : Stopped (take (r .fill .filled) w) (r .mark .count) (r .slots) 62 (found .out) (found .ends) (found .out .stop)
   stops =
       search-stopped (take (r .fill .filled) w) 62 (r .slots) from (r .mark .count) e (found .out) (found .ends) (omega (arith, bytes))
       (g .is-sane .count-slots) (le-of-eq (g .table-lent)) refl
@@ -420,7 +420,7 @@ module _ {own : Bool} (r : Reader) (w e : List ℕ) (g : Good r w e) (h : Behind
           rises-none (goesOn (r .mark)) (finds .fresh) (max (found .out .at) (r .mark .start .0 + 1))
           (omega (arith, apart′, within′, g .is-sane .search-filled)) (omega (arith, apart′, within′, g .is-sane .search-filled))
 
-  found-behind : Behind own (reached (found .out .at) (found .out .count) r .mark) (found .ends)
+  pub found-behind : Behind own (reached (found .out .at) (found .out .count) r .mark) (found .ends)
   found-behind =
       record {
         count-behind = omega (arith, h .count-behind, finds .counted, finds .apart, finds .within, bytes, g .is-sane .search-filled);

@@ -22,7 +22,7 @@ use Rattle.reader.specs.declared.state.Phase.the-variants as phase
 use Rattle.reader.specs.State.{Good, inPhase, withMark, markAt}
 use Rattle.reader.specs.Read.{Said, Did, does, hunted, beginsAt}
 use Rattle.reader.proofs.Kept.{begun-behind}
-use Rattle.runs.proofs.Tells.{Dues, judge, fromHere, unlessOver, dueIn, isSought, isWindow, isTable, Told, Tells, Rests, Goes, Step, Hunts}
+use Rattle.runs.proofs.Tells.{Dues, judge, fromHere, unlessOver, dueIn, isSought, isWindow, isTable, Told, Tells, Rests, Settled, Goes, Step, Hunts}
 
 -- a window over the input from place a on, of which the first m bytes are filled
 module _ (X w : List ℕ) (a m : ℕ) (text : drop a X ≡ take m w ++ drop (a + m) X) (fits : m ≤ length w) where
@@ -110,18 +110,24 @@ module _ (X : List ℕ) (C : ℕ) (r : Reader) (w e : List ℕ) (t : Tells X C r
       let known = t .told told in
       record { is-all = known .is-all; has-room = known .has-room; is-quiet = known .is-quiet }
 
-  -- a read that leaves all but the phase
+  -- an answer leaves the window as it is
   pub step-rests :
-      (s : Said) (p : Phase) (due : Dues) → isSought p ≡ false → Rests (inPhase p r) → Goes s due X C (inPhase p r) e → Step X C r due (does s (inPhase p r) w e)
-  step-rests s p due no′ rests goes =
+      (s : Said) (m : Mark) (p : Phase) (e′ : List ℕ) (due : Dues) →
+      isSought p ≡ false →
+      Rests (inPhase p (withMark m r)) →
+      Settled s (r .fill .asking) (inPhase p (withMark m r)) →
+      Goes s due X C (inPhase p (withMark m r)) e′ →
+      Step X C r due (does s (inPhase p (withMark m r)) w e′)
+  step-rests s m p e′ due no′ rests settled goes =
       record {
         goes = goes;
         text = t .text;
-        told = told-with (r .mark) p;
+        told = told-with m p;
         largest-is = t .largest-is;
         sought-inside = λ is. absurd (false≢true (sym no′ ∙ is));
         same = record { reaches = refl; end-told = refl; slots-are = refl };
         rests = λ k. rests;
+        settled = settled;
       }
 
   -- a search of a record that begins in the window
@@ -152,4 +158,5 @@ module _ (X : List ℕ) (C : ℕ) (r : Reader) (w e : List ℕ) (t : Tells X C r
           sought-inside = s .sought-inside;
           same = record { reaches = s .same .reaches; end-told = s .same .end-told; slots-are = s .same .slots-are };
           rests = λ k. s .rests (at-rest (beginsAt start line r) refl refl);
+          settled = s .settled;
         })

@@ -14,11 +14,9 @@ use Rattle.reader.specs.Read.{Said, asks, gives, ends, refuses}
 use Rattle.runs.specs.Run.{State, Made, reading, afterRead, Event, Run}
 use Rattle.runs.specs.Run as run
 use Rattle.runs.specs.Demand.{origin, answers, dueFrom, nth, Hears, Demand3}
-use Rattle.runs.proofs.Tells.{Dues, dueTo, Says, Goes, Answers, later, Hunts}
+use Rattle.runs.proofs.Tells.{Dues, dueTo, Says, Goes, Answers, later}
 use Rattle.runs.proofs.Fine.{IsFine, AllFine, after}
 use Rattle.runs.proofs.Given as given
-use Rattle.runs.proofs.Lead.{leads}
-use Rattle.runs.proofs.Sought.{soughts, behinds}
 use Rattle.runs.proofs.Reached.{Reached, step, reached-read, runs-on, reached-made}
 
 after-later : {A : Type 0} (k : ℕ) (d : List A) → later (after k d) ≡ after k (later d)
@@ -48,12 +46,12 @@ nth-after k (x ∷ []) a rest e = first-same x a [] rest (sym (after-last k x) �
 nth-after zero (x ∷ y ∷ d) a rest e = first-same x a (y ∷ d) rest e
 nth-after (suc k) (x ∷ y ∷ d) a rest e = nth-after k (y ∷ d) a rest (sym (after-later k (x ∷ y ∷ d)) ∙ e)
 
-module _ (hunts : Hunts) (X : List ℕ) (C T : ℕ) (h : List Event) (s : State) (k : Reached X C T h s) where
+module _ (X : List ℕ) (C T : ℕ) (h : List Event) (s : State) (k : Reached X C T h s) where
   abbrev due : Dues
   due = dueTo X C (s .reader) (s .table)
 
   then′ : Reached X C T (run.read (reading s .said) ∷ h) (afterRead s)
-  then′ = reached-read hunts (leads hunts) (soughts hunts) (behinds hunts) X C T h s k
+  then′ = reached-read X C T h s k
 
   -- the first that is due
   next-is : (a : meant.Said Mark) (rest : Dues) → due ≡ a ∷ rest → nth (answers h) (dueFrom X C T (origin h)) ≡ saidOf X a
@@ -81,7 +79,7 @@ module _ (hunts : Hunts) (X : List ℕ) (C T : ℕ) (h : List Event) (s : State)
       (hears-said a (q .first) (q .says) (subst (AllFine X) (q .due-is) (k .fine) .0))
 
   pub hears : Hears (reading s .said) (nth (answers h) (dueFrom X C T (origin h))) (afterRead s)
-  hears = go (reading s .said) (step hunts (leads hunts) (soughts hunts) (behinds hunts) X C T h s k .goes)
+  hears = go (reading s .said) (step X C T h s k .goes)
     where
       go : (a : Said) → Goes a due X C (reading s .reader) (reading s .table) → Hears a (nth (answers h) (dueFrom X C T (origin h))) (afterRead s)
       go (asks p m o) q = tt
@@ -89,9 +87,9 @@ module _ (hunts : Hunts) (X : List ℕ) (C T : ℕ) (h : List Event) (s : State)
       go ends q = hears-answer ends q
       go (refuses n vs) q = hears-answer (refuses n vs) q
 
-pub demand3 : Hunts → Demand3
-demand3 hunts X capacity policy start made h s r =
+pub demand3 : Demand3
+demand3 X capacity policy start made h s r =
     let C = largest policy (length (start .window)) capacity in
     let T = length (start .table) in
-    hears hunts X C T h s
-    (runs-on hunts (leads hunts) (soughts hunts) (behinds hunts) X C T start (reached-made X capacity policy start made) h s r)
+    hears X C T h s
+    (runs-on X C T start (reached-made X capacity policy start made) h s r)

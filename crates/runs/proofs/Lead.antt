@@ -70,7 +70,7 @@ module _ (X : List ℕ) (C : ℕ) (r : Reader) (w e : List ℕ) (t : Tells X C r
   over : stop .undecided ≡ true → r .fill .told ≡ true → Step X C r due (leadOn stop r w e)
   over open′ told =
       step-as (ap (dueMarks C (r .slots)) (meets .is-over open′ (at-end X C r w e t told)) ∙ due-none C (r .slots)) (lead-over r w e stop told)
-      (step-rests X C r w e t ends phase.Over (meant.ends ∷ []) refl (at-rest (inPhase phase.Over r) refl refl)
+      (step-rests X C r w e t ends (r .mark) phase.Over e (meant.ends ∷ []) refl (at-rest (inPhase phase.Over r) refl refl) (refl, refl)
       (record { first = meant.ends; rest = []; due-is = refl; says = tt; then-due = refl }))
 
   -- blank lines that fill the window
@@ -96,6 +96,7 @@ module _ (X : List ℕ) (C : ℕ) (r : Reader) (w e : List ℕ) (t : Tells X C r
         sought-inside = λ at. absurd (false≢true (ap isSought (sym is) ∙ at));
         same = record { reaches = omega arith; end-told = refl; slots-are = refl };
         rests = λ k. record { at-front = λ at. refl; all-slots = λ at. absurd (false≢true (ap isTable (sym is) ∙ at)) };
+        settled = tt;
       })
 
   -- a line that is not blank
@@ -128,7 +129,7 @@ module _ (X : List ℕ) (C : ℕ) (r : Reader) (w e : List ℕ) (t : Tells X C r
         step-as
         (due-there ∙ due-refused C (r .slots) line (base + stop .at) first (drop (suc (base + stop .at)) X) other)
         (led-refused r w e stop shut other)
-        (step-rests X C r w e t (refuses 2 values) phase.Over (meant.refuses 2 values ∷ meant.ends ∷ []) refl (at-rest (inPhase phase.Over r) refl refl)
+        (step-rests X C r w e t (refuses 2 values) (r .mark) phase.Over e (meant.refuses 2 values ∷ meant.ends ∷ []) refl (at-rest (inPhase phase.Over r) refl refl) (refl, refl)
         (record {
           first = meant.refuses 2 values;
           rest = meant.ends ∷ [];

@@ -2,6 +2,8 @@
 pub mod Tells
 pub mod Keeping
 pub mod Begun
+pub mod SearchMarks
+pub mod Hunt
 pub mod LeadBytes
 pub mod Lead
 pub mod Sought

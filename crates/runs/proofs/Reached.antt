@@ -24,7 +24,7 @@ use Rattle.reader.proofs.NeverState.{kept-made}
 use Rattle.runs.specs.Run.{State, state, Made, reading, afterRead, Brings, Event, read, brought, sought, Run, begun, by-read, by-report, by-seek, by-refused-report, by-refused-seek}
 use Rattle.runs.specs.Run as run
 use Rattle.runs.specs.Demand.{front, place, origin, answers, dueFrom}
-use Rattle.runs.proofs.Tells.{Dues, dueIn, dueTo, atSought, Tells, isWindow, isTable, Rests, later, Goes, Answers, Step, Hunts, Leads, Soughts, Behinds}
+use Rattle.runs.proofs.Tells.{Dues, dueIn, dueTo, atSought, Tells, isWindow, isTable, Rests, later, Goes, Answers, Step}
 use Rattle.runs.proofs.Step.{steps, still-tells}
 use Rattle.runs.proofs.Calls.{filledBy, Took, taken, tells-report, due-report, rests-report, Sought, seeks, report-refused, seek-refused}
 use Rattle.runs.proofs.Fine.{AllFine, fine-later, after, fine-front, said-front, fine-sought, said-sought}
@@ -41,11 +41,11 @@ pub record Reached (X : List ℕ) (C T : ℕ) (h : List Event) (s : State) : Typ
   pub fine : AllFine X (dueTo X C (s .reader) (s .table))
   pub rests : Rests (s .reader)
 
-module _ (hunts : Hunts) (leads : Leads) (soughts : Soughts) (behinds : Behinds) (X : List ℕ) (C T : ℕ) where
+module _ (X : List ℕ) (C T : ℕ) where
   -- a read
   module _ (h : List Event) (s : State) (k : Reached X C T h s) where
     pub step : Step X C (s .reader) (dueTo X C (s .reader) (s .table)) (reading s)
-    step = steps hunts leads soughts behinds X C (s .reader) (s .window) (s .table) (k .tells)
+    step = steps X C (s .reader) (s .window) (s .table) (k .tells)
 
     reached-with :
         (a : Said) →
@@ -55,7 +55,7 @@ module _ (hunts : Hunts) (leads : Leads) (soughts : Soughts) (behinds : Behinds)
     unfolding origin
     reached-with a due-is fine =
         record {
-          tells = still-tells hunts leads soughts behinds X C (s .reader) (s .window) (s .table) (k .tells);
+          tells = still-tells X C (s .reader) (s .window) (s .table) (k .tells);
           slots-are = step .same .slots-are ∙ k .slots-are;
           due-is = due-is;
           fine = fine;

@@ -72,7 +72,7 @@ module _ (X : List ℕ) (C : ℕ) (r : Reader) (w e : List ℕ) (t : Tells X C r
       Step X C r (dueIn phase.Sought X C r e) (soughtAt r w e)
   astray due no′ =
       step-as due (sought-astray r w e no′)
-      (step-rests X C r w e t (refuses 5 []) phase.Astray (meant.refuses 5 [] ∷ []) refl (at-rest (inPhase phase.Astray r) refl refl)
+      (step-rests X C r w e t (refuses 5 []) (r .mark) phase.Astray e (meant.refuses 5 [] ∷ []) refl (at-rest (inPhase phase.Astray r) refl refl) (refl, refl)
       (record {
         first = meant.refuses 5 [];
         rest = [];
@@ -89,7 +89,7 @@ module _ (X : List ℕ) (C : ℕ) (r : Reader) (w e : List ℕ) (t : Tells X C r
       (ap (λ (xs : List ℕ). unlessOver xs (judge C (r .slots) (marks (r .mark .line + r .mark .count) b (suc b) [] (drop (suc b) X) false)))
       (ap (λ (n : ℕ). drop (base + n) X) at ∙ at-end X C r w e t told))
       (behind-ended r w e told at)
-      (step-rests X C r w e t ends phase.Ended (meant.ends ∷ []) refl (at-rest (inPhase phase.Ended r) refl refl)
+      (step-rests X C r w e t ends (r .mark) phase.Ended e (meant.ends ∷ []) refl (at-rest (inPhase phase.Ended r) refl refl) (refl, refl)
       (record { first = meant.ends; rest = []; due-is = refl; says = tt; then-due = refl }))
 
   -- the next record waits for a full window or the end
@@ -103,6 +103,7 @@ module _ (X : List ℕ) (C : ℕ) (r : Reader) (w e : List ℕ) (t : Tells X C r
         sought-inside = λ is. absurd (false≢true is);
         same = record { reaches = refl; end-told = refl; slots-are = refl };
         rests = λ k. at-rest (asked (passed r) w e .reader) refl refl;
+        settled = tt;
       }
 
   behind-goes : Hunts → Step X C r (dueIn phase.Current X C r e) (whenReady hunted (passed r) w e)

@@ -2,6 +2,7 @@
 use Prim.Native.Nat.{ℕ, _<_}
 use mathlib.Core.Bool.{Bool, true, false, not, _&&_, _||_, false≢true}
 use mathlib.Core.List.{List, [], _∷_}
+use mathlib.Core.Option.{some}
 use mathlib.Core.Path.{_≡_, refl, sym, ap, subst, _∙_}
 use lib.ListN.{length}
 use lib.Dec.{eqb}
@@ -19,7 +20,10 @@ use Rattle.reader.proofs.Kept.{isSearching, kept-searched, kept-rising}
 use Rattle.meaning.specs.OnePass.{Mark}
 use Rattle.runs.proofs.Keeping.{by-read, read-good}
 use Rattle.runs.proofs.Begun.{step-as, unready-told}
-use Rattle.runs.proofs.Tells.{Dues, dueIn, dueTo, later, Tells, Told, Rests, Says, Goes, Answers, Step, Hunts, Leads, Soughts, Behinds}
+use Rattle.runs.proofs.Tells.{Dues, dueIn, dueTo, later, Tells, Told, Rests, restSays, Settled, Says, Goes, Answers, Step}
+use Rattle.runs.proofs.Hunt.{hunts}
+use Rattle.runs.proofs.Lead.{leads}
+use Rattle.runs.proofs.Sought.{soughts, behinds}
 
 -- an ask changes nothing that is due
 due-asking : (p : Phase) (X : List ℕ) (C : ℕ) (r : Reader) (e : List ℕ) → dueIn p X C (withFill (asking true (r .fill)) r) e ≡ dueIn p X C r e
@@ -35,8 +39,8 @@ due-asking phase.Astray X C r e = refl
 
 module _ (X : List ℕ) (C : ℕ) (r : Reader) (w e : List ℕ) (t : Tells X C r w e) where
   -- a read that changes nothing
-  same-step : (s : Said) → Goes s (dueTo X C r e) X C r e → Step X C r (dueTo X C r e) (does s r w e)
-  same-step s goes =
+  same-step : (s : Said) → Goes s (dueTo X C r e) X C r e → Settled s (r .fill .asking) r → Step X C r (dueTo X C r e) (does s r w e)
+  same-step s goes settled =
       record {
         goes = goes;
         text = t .text;
@@ -45,6 +49,7 @@ module _ (X : List ℕ) (C : ℕ) (r : Reader) (w e : List ℕ) (t : Tells X C r
         sought-inside = t .sought-inside;
         same = record { reaches = refl; end-told = refl; slots-are = refl };
         rests = λ k. k;
+        settled = settled;
       }
 
   -- an ask, where the end was not told
@@ -58,6 +63,7 @@ module _ (X : List ℕ) (C : ℕ) (r : Reader) (w e : List ℕ) (t : Tells X C r
         sought-inside = t .sought-inside;
         same = record { reaches = refl; end-told = refl; slots-are = refl };
         rests = λ k. record { at-front = k .at-front; all-slots = k .all-slots };
+        settled = tt;
       }
 
   ready-step :
@@ -76,55 +82,57 @@ module _ (X : List ℕ) (C : ℕ) (r : Reader) (w e : List ℕ) (t : Tells X C r
       let due-is : dueTo X C r e ≡ a ∷ [] = ap (λ (q : Phase). dueIn q X C r e) is ∙ one in
       record { first = a; rest = []; due-is = due-is; says = says; then-due = due-is ∙ sym (ap later due-is) }
 
-module _ (hunts : Hunts) (leads : Leads) (soughts : Soughts) (behinds : Behinds) where
-  module _ (X : List ℕ) (C : ℕ) (r : Reader) (w e : List ℕ) (t : Tells X C r w e) where
-    in-phase : (p : Phase) → r .phase ≡ p → {due : Dues} → dueTo X C r e ≡ due → {d : Did} → Step X C r (dueIn p X C r e) d → Step X C r due d
-    in-phase p is {due} same {d} s =
-        subst (λ (o : Dues). Step X C r o d) (sym (ap (λ (q : Phase). dueIn q X C r e) is) ∙ same) s
+module _ (X : List ℕ) (C : ℕ) (r : Reader) (w e : List ℕ) (t : Tells X C r w e) where
+  in-phase : (p : Phase) → r .phase ≡ p → {due : Dues} → dueTo X C r e ≡ due → {d : Did} → Step X C r (dueIn p X C r e) d → Step X C r due d
+  in-phase p is {due} same {d} s =
+      subst (λ (o : Dues). Step X C r o d) (sym (ap (λ (q : Phase). dueIn q X C r e) is) ∙ same) s
 
-    -- a record that is searched on: its ends rise
-    on-step : r .phase ≡ phase.Searching → ready (r .fill) ≡ true → Step X C r (dueIn phase.Searching X C r e) (searchedOn r w e)
-    on-step is full =
-        let k = kept-searched {own = true} r w e (t .is-good) (t .is-behind (ap isSearching is)) in
-        step-as refl (on-rising r w e (kept-rising r w e k refl)) (hunts X C r w e t is full)
+  -- a record that is searched on: its ends rise
+  on-step : r .phase ≡ phase.Searching → ready (r .fill) ≡ true → Step X C r (dueIn phase.Searching X C r e) (searchedOn r w e)
+  on-step is full =
+      let k = kept-searched {own = true} r w e (t .is-good) (t .is-behind (ap isSearching is)) in
+      step-as refl (on-rising r w e (kept-rising r w e k refl)) (hunts X C r w e t is full)
 
-    by-phase : (p : Phase) → r .phase ≡ p → Step X C r (dueTo X C r e) (readIn p r w e)
-    by-phase phase.Lead is = ready-step X C r w e t led (λ full. in-phase phase.Lead is refl (leads X C r w e t is full))
-    by-phase phase.Sought is = ready-step X C r w e t soughtAt (λ full. in-phase phase.Sought is refl (soughts X C r w e t is full))
-    by-phase phase.Searching is = ready-step X C r w e t searchedOn (λ full. in-phase phase.Searching is refl (on-step is full))
-    by-phase phase.Current is = in-phase phase.Current is refl (behinds X C r w e t is)
-    by-phase phase.Ended is = same-step X C r w e t ends (last-step X C r w e t ends meant.ends phase.Ended is refl tt)
-    by-phase phase.Over is = same-step X C r w e t ends (last-step X C r w e t ends meant.ends phase.Over is refl tt)
-    by-phase phase.Window is =
-        same-step X C r w e t (refuses 3 (placed r)) (last-step X C r w e t (refuses 3 (placed r)) (meant.refuses 3 (placed r)) phase.Window is refl (refl, refl))
-    by-phase phase.Table is =
-        same-step X C r w e t (refuses 4 (placed r)) (last-step X C r w e t (refuses 4 (placed r)) (meant.refuses 4 (placed r)) phase.Table is refl (refl, refl))
-    by-phase phase.Astray is =
-        same-step X C r w e t (refuses 5 []) (last-step X C r w e t (refuses 5 []) (meant.refuses 5 []) phase.Astray is refl (refl, refl))
+  settles : (p : Phase) → r .phase ≡ p → {a : Said} → restSays p r ≡ some a → (restSays (r .phase) r ≡ some a) × (r .fill .asking ≡ r .fill .asking)
+  settles p is says = (ap (λ (q : Phase). restSays q r) is ∙ says, refl)
 
-    fine : sane r ≡ true
-    fine = sane-true r (t .is-good .is-sane)
+  by-phase : (p : Phase) → r .phase ≡ p → Step X C r (dueTo X C r e) (readIn p r w e)
+  by-phase phase.Lead is = ready-step X C r w e t led (λ full. in-phase phase.Lead is refl (leads hunts X C r w e t is full))
+  by-phase phase.Sought is = ready-step X C r w e t soughtAt (λ full. in-phase phase.Sought is refl (soughts hunts X C r w e t is full))
+  by-phase phase.Searching is = ready-step X C r w e t searchedOn (λ full. in-phase phase.Searching is refl (on-step is full))
+  by-phase phase.Current is = in-phase phase.Current is refl (behinds hunts X C r w e t is)
+  by-phase phase.Ended is = same-step X C r w e t ends (last-step X C r w e t ends meant.ends phase.Ended is refl tt) (settles phase.Ended is refl)
+  by-phase phase.Over is = same-step X C r w e t ends (last-step X C r w e t ends meant.ends phase.Over is refl tt) (settles phase.Over is refl)
+  by-phase phase.Window is =
+      same-step X C r w e t (refuses 3 (placed r)) (last-step X C r w e t (refuses 3 (placed r)) (meant.refuses 3 (placed r)) phase.Window is refl (refl, refl)) (settles phase.Window is refl)
+  by-phase phase.Table is =
+      same-step X C r w e t (refuses 4 (placed r)) (last-step X C r w e t (refuses 4 (placed r)) (meant.refuses 4 (placed r)) phase.Table is refl (refl, refl)) (settles phase.Table is refl)
+  by-phase phase.Astray is =
+      same-step X C r w e t (refuses 5 []) (last-step X C r w e t (refuses 5 []) (meant.refuses 5 []) phase.Astray is refl (refl, refl)) (settles phase.Astray is refl)
 
-    lent : lentAs r (length w) (length e) ≡ true
-    lent = lent-true r w e (t .is-good .window-lent) (t .is-good .table-lent)
+  fine : sane r ≡ true
+  fine = sane-true r (t .is-good .is-sane)
 
-    pub steps : Step X C r (dueTo X C r e) (readOf r w e)
-    steps = go (not (lasts (r .phase)) && r .fill .asking) refl
-      where
-        go : (u : Bool) → (not (lasts (r .phase)) && r .fill .asking) ≡ u → Step X C r (dueTo X C r e) (readOf r w e)
-        go true u =
-            let both = and-true (not (lasts (r .phase))) (r .fill .asking) u in
-            step-as refl (read-repeats r w e fine lent (not-true (lasts (r .phase)) (both .0)) (both .1)) (same-step X C r w e t (askFor r) (refl, both .1))
-        go false u = step-as refl (read-goes r w e fine lent u) (by-phase (r .phase) refl)
+  lent : lentAs r (length w) (length e) ≡ true
+  lent = lent-true r w e (t .is-good .window-lent) (t .is-good .table-lent)
 
-    -- and the relation holds again
-    pub still-tells : Tells X C (readOf r w e .reader) (readOf r w e .window) (readOf r w e .table)
-    still-tells =
-        record {
-          is-good = read-good r w e (t .is-good) (t .is-behind);
-          is-behind = by-read r w e (t .is-good) (t .is-behind);
-          sought-inside = steps .sought-inside;
-          text = steps .text;
-          told = steps .told;
-          largest-is = steps .largest-is;
-        }
+  pub steps : Step X C r (dueTo X C r e) (readOf r w e)
+  steps = go (not (lasts (r .phase)) && r .fill .asking) refl
+    where
+      go : (u : Bool) → (not (lasts (r .phase)) && r .fill .asking) ≡ u → Step X C r (dueTo X C r e) (readOf r w e)
+      go true u =
+          let both = and-true (not (lasts (r .phase))) (r .fill .asking) u in
+          step-as refl (read-repeats r w e fine lent (not-true (lasts (r .phase)) (both .0)) (both .1)) (same-step X C r w e t (askFor r) (refl, both .1) tt)
+      go false u = step-as refl (read-goes r w e fine lent u) (by-phase (r .phase) refl)
+
+  -- and the relation holds again
+  pub still-tells : Tells X C (readOf r w e .reader) (readOf r w e .window) (readOf r w e .table)
+  still-tells =
+      record {
+        is-good = read-good r w e (t .is-good) (t .is-behind);
+        is-behind = by-read r w e (t .is-good) (t .is-behind);
+        sought-inside = steps .sought-inside;
+        text = steps .text;
+        told = steps .told;
+        largest-is = steps .largest-is;
+      }

@@ -3,6 +3,7 @@
 use Prim.Native.Nat.{ℕ, suc, _+_, _-_, _≤_, _<_}
 use mathlib.Core.Bool.{Bool, true, false, cond}
 use mathlib.Core.List.{List, [], _∷_, _++_, map}
+use mathlib.Core.Option.{Option, none, some}
 use mathlib.Core.Path.{_≡_}
 use lib.ListN.{length, take, drop}
 use lib.Dec.{eqb}
@@ -120,6 +121,25 @@ pub record Rests (r : Reader) : Type 0 where
   pub at-front : isWindow (r .phase) ≡ true → r .mark .start .0 ≡ 0
   pub all-slots : isTable (r .phase) ≡ true → r .mark .count ≡ r .slots
 
+-- what a reader at rest says, each time
+abbrev pub restSays : Phase → Reader → Option Said
+restSays phase.Lead r = none
+restSays phase.Sought r = none
+restSays phase.Searching r = none
+restSays phase.Current r = none
+restSays phase.Ended r = some ends
+restSays phase.Over r = some ends
+restSays phase.Window r = some (refuses 3 (placed r))
+restSays phase.Table r = some (refuses 4 (placed r))
+restSays phase.Astray r = some (refuses 5 [])
+
+-- after the end or a refusal a reader is at rest, its ask open or not as before: it says the same again, but the end after refusal 2
+abbrev pub Settled : Said → (asking : Bool) → Reader → Type 0
+Settled (asks p m o) asking r = Unit {0}
+Settled (gives l b) asking r = Unit {0}
+Settled ends asking r = (restSays (r .phase) r ≡ some ends) × (r .fill .asking ≡ asking)
+Settled (refuses n vs) asking r = (restSays (r .phase) r ≡ some (cond (eqb n 2) ends (refuses n vs))) × (r .fill .asking ≡ asking)
+
 -- a record that is current: its mark's numbers are the reader's
 pub record Holds (m : Mark) (r : Reader) (e : List ℕ) : Type 0 where
   pub is-current : r .phase ≡ phase.Current
@@ -169,6 +189,7 @@ pub record Step (X : List ℕ) (C : ℕ) (r : Reader) (due : Dues) (d : Did) : T
   pub sought-inside : isSought (d .reader .phase) ≡ true → d .reader .mark .start .0 < d .reader .fill .capacity
   pub same : Same r (d .reader)
   pub rests : Rests r → Rests (d .reader)
+  pub settled : Settled (d .said) (r .fill .asking) (d .reader)
 
 -- A search that may go on, of a record that stands in the window: what follows is a step, whatever the phase was before.
 abbrev pub Hunts : Type 0
