@@ -163,7 +163,7 @@ module _ (X : List ℕ) (C : ℕ) (r : Reader) (w e : List ℕ) (t : Tells X C r
       Step X C r due (asked (withFill f (withMark m r)) w′ e′)
   asks-on f m w′ e′ is open′ still reach text most same =
       record {
-        goes = (ap (λ (p : Phase). dueIn p X C (withFill (asking true f) (withMark m r)) e′) is ∙ same, refl);
+        goes = (ap (λ (p : Phase). dueIn p X C (withFill (asking true f) (withMark m r)) e′) is ∙ same, (refl, refl));
         text = text;
         told = λ u. absurd (false≢true (sym still ∙ u));
         largest-is = most;

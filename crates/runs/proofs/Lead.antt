@@ -88,7 +88,7 @@ module _ (X : List ℕ) (C : ℕ) (r : Reader) (w e : List ℕ) (t : Tells X C r
           ap (λ (p : Phase). dueIn p X C (withFill (asking true (dropped n (r .fill))) (withMark mark r)) e) is
               ∙ ap (λ (p : ℕ). dueMarks C (r .slots) (leadMarks (r .mark .line + stop .lines) p (drop p X) false)) (add-zero (base + n))
               ∙ ap (dueMarks C (r .slots)) (sym (meets .goes-on open′)),
-          refl,
+          (refl, refl),
         );
         text = text-slid X w base (r .fill .filled) (t .text) (window-fits X C r w e t) n high;
         told = λ yes′. absurd (false≢true (sym told ∙ yes′));

@@ -14,3 +14,5 @@ pub mod Within
 pub mod Given
 pub mod Reached
 pub mod Demand
+pub mod Refusals
+pub mod Progress

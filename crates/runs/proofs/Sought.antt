@@ -96,7 +96,7 @@ module _ (X : List ℕ) (C : ℕ) (r : Reader) (w e : List ℕ) (t : Tells X C r
   behind-waits : ready (r .fill) ≡ false → Step X C r (dueIn phase.Current X C r e) (asked (passed r) w e)
   behind-waits no′ =
       record {
-        goes = (begun-due X C r e (r .mark .search .0) (r .mark .line + r .mark .count), refl);
+        goes = (begun-due X C r e (r .mark .search .0) (r .mark .line + r .mark .count), (refl, refl));
         text = t .text;
         told = λ is. absurd (false≢true (sym (unready-told (r .fill) no′) ∙ is));
         largest-is = t .largest-is;

@@ -56,7 +56,7 @@ module _ (X : List ℕ) (C : ℕ) (r : Reader) (w e : List ℕ) (t : Tells X C r
   pub asked-step : r .fill .told ≡ false → Step X C r (dueTo X C r e) (asked r w e)
   asked-step quiet =
       record {
-        goes = (due-asking (r .phase) X C r e, refl);
+        goes = (due-asking (r .phase) X C r e, (refl, refl));
         text = t .text;
         told = λ is. absurd (false≢true (sym quiet ∙ is));
         largest-is = t .largest-is;
@@ -122,7 +122,7 @@ module _ (X : List ℕ) (C : ℕ) (r : Reader) (w e : List ℕ) (t : Tells X C r
       go : (u : Bool) → (not (lasts (r .phase)) && r .fill .asking) ≡ u → Step X C r (dueTo X C r e) (readOf r w e)
       go true u =
           let both = and-true (not (lasts (r .phase))) (r .fill .asking) u in
-          step-as refl (read-repeats r w e fine lent (not-true (lasts (r .phase)) (both .0)) (both .1)) (same-step X C r w e t (askFor r) (refl, both .1) tt)
+          step-as refl (read-repeats r w e fine lent (not-true (lasts (r .phase)) (both .0)) (both .1)) (same-step X C r w e t (askFor r) (refl, (both .1, refl)) tt)
       go false u = step-as refl (read-goes r w e fine lent u) (by-phase (r .phase) refl)
 
   -- and the relation holds again

@@ -16,7 +16,7 @@ use Rattle.reader.specs.declared.state.Phase.{Phase}
 use Rattle.reader.specs.declared.state.Phase.the-variants as phase
 use Rattle.reader.specs.State.{Good, byteOf}
 use Rattle.window.specs.Fill.{ready}
-use Rattle.reader.specs.Read.{Said, asks, gives, ends, refuses, Did, placed, hunted, led, soughtAt, behind}
+use Rattle.reader.specs.Read.{Said, asks, gives, ends, refuses, Did, askFor, placed, hunted, led, soughtAt, behind}
 use Rattle.reader.proofs.Kept.{isSearching, Behind, goesOn}
 
 abbrev pub Dues : Type 0
@@ -169,7 +169,7 @@ pub record Answers (s : Said) (d : Dues) (X : List ℕ) (C : ℕ) (r : Reader) (
   pub then-due : dueTo X C r e ≡ later d
 
 abbrev pub Goes : Said → Dues → (X : List ℕ) (C : ℕ) → Reader → (e : List ℕ) → Type 0
-Goes (asks p m o) d X C r e = (dueTo X C r e ≡ d) × (r .fill .asking ≡ true)
+Goes (asks p m o) d X C r e = (dueTo X C r e ≡ d) × ((r .fill .asking ≡ true) × (asks p m o ≡ askFor r))
 Goes (gives l b) d X C r e = Answers (gives l b) d X C r e
 Goes ends d X C r e = Answers ends d X C r e
 Goes (refuses n vs) d X C r e = Answers (refuses n vs) d X C r e

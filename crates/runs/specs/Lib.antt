@@ -1,5 +1,7 @@
 -- Runs of a reader and what is owed of them: demand 3, resuming, progress, what refusals leave, `position` by what was heard.
 pub mod Run
 pub mod Demand
+pub mod Refusals
 pub mod Position
+pub mod Progress
 pub mod Standing
