@@ -63,32 +63,36 @@ due-filled p X C (suc n) r e = go p
     go phase.Astray = refl
 
 module _ (X : List ℕ) (C : ℕ) (r : Reader) (w e : List ℕ) (t : Tells X C r w e) where
-  pub taken : (n : ℕ) → reportOf n r .refusal ≡ none → Took n r
-  taken n is = record { is-asked = open-ask; reader-is = sane ∙ ap (λ (o : Option Fill). tookOver o r) (fills n open-ask) }
+  reports : (n : ℕ) → reportOf n r ≡ tookOver (reported n (r .fill)) r
+  reports n = report-sane r n (sane-true r (t .is-good .is-sane))
+
+  -- a count that was asked for is taken
+  pub takes : (n : ℕ) → Asked (r .fill) n → Took n r
+  takes n a = record { is-asked = a; reader-is = reports n ∙ ap (λ (o : Option Fill). tookOver o r) (fills n a) }
     where
-      sane : reportOf n r ≡ tookOver (reported n (r .fill)) r
-      sane = report-sane r n (sane-true r (t .is-good .is-sane))
-
-      shut : {A : Type 0} → (Asked (r .fill) n → ⊥) → A
-      shut no′ =
-          let refused : reportOf n r .refusal ≡ some 6 = ap (λ (l : Left). l .refusal) (sane ∙ ap (λ (o : Option Fill). tookOver o r) (reported-refused (r .fill) n no′)) in
-          absurd (Option·none-ne-some 6 (sym is ∙ refused))
-
-      open-ask : Asked (r .fill) n
-      open-ask =
-          go (r .fill .asking) refl (decLe n (r .fill .capacity - r .fill .filled)) (decLe (r .fill .base .0 + r .fill .filled + n) most)
-        where
-          go :
-              (a : Bool) → r .fill .asking ≡ a → Dec (n ≤ r .fill .capacity - r .fill .filled) → Dec (r .fill .base .0 + r .fill .filled + n ≤ most) →
-              Asked (r .fill) n
-          go false a u v = shut (λ k. false≢true (sym a ∙ k .is-open))
-          go true a (no u) v = shut (λ k. u (k .has-room))
-          go true a (yes u) (no v) = shut (λ k. v (k .input-has-room))
-          go true a (yes u) (yes v) = record { is-open = a; has-room = u; input-has-room = v }
-
       fills : (n : ℕ) → Asked (r .fill) n → reported n (r .fill) ≡ some (filledBy n (r .fill))
       fills zero a = reported-end (r .fill) 0 a refl
       fills (suc n) a = reported-more (r .fill) (suc n) a (λ z. omega arith)
+
+  -- and no other
+  pub taken : (n : ℕ) → reportOf n r .refusal ≡ none → Took n r
+  taken n is =
+      takes n
+      (go (r .fill .asking) refl (decLe n (r .fill .capacity - r .fill .filled)) (decLe (r .fill .base .0 + r .fill .filled + n) most))
+    where
+      shut : {A : Type 0} → (Asked (r .fill) n → ⊥) → A
+      shut no′ =
+          let refused : reportOf n r .refusal ≡ some 6 =
+          ap (λ (l : Left). l .refusal) (reports n ∙ ap (λ (o : Option Fill). tookOver o r) (reported-refused (r .fill) n no′)) in
+          absurd (Option·none-ne-some 6 (sym is ∙ refused))
+
+      go :
+          (a : Bool) → r .fill .asking ≡ a → Dec (n ≤ r .fill .capacity - r .fill .filled) → Dec (r .fill .base .0 + r .fill .filled + n ≤ most) →
+          Asked (r .fill) n
+      go false a u v = shut (λ k. false≢true (sym a ∙ k .is-open))
+      go true a (no u) v = shut (λ k. u (k .has-room))
+      go true a (yes u) (no v) = shut (λ k. v (k .input-has-room))
+      go true a (yes u) (yes v) = record { is-open = a; has-room = u; input-has-room = v }
 
   -- a report that brings bytes of X keeps the relation
   module _ (n : ℕ) (w′ : List ℕ) (k : Took n r) (b : Brings X n (state r w e) w′) where
@@ -240,13 +244,10 @@ module _ (X : List ℕ) (C : ℕ) (r : Reader) (w e : List ℕ) (t : Tells X C r
   pub report-refused : (n number : ℕ) → reportOf n r .refusal ≡ some number → reportOf n r .reader ≡ r
   report-refused n number is = go (reported n (r .fill)) refl
     where
-      sane′ : reportOf n r ≡ tookOver (reported n (r .fill)) r
-      sane′ = report-sane r n (sane-true r (t .is-good .is-sane))
-
       go : (o : Option Fill) → reported n (r .fill) ≡ o → reportOf n r .reader ≡ r
-      go none o = ap (λ (l : Left). l .reader) (sane′ ∙ ap (λ (f : Option Fill). tookOver f r) o)
+      go none o = ap (λ (l : Left). l .reader) (reports n ∙ ap (λ (f : Option Fill). tookOver f r) o)
       go (some f) o =
-          absurd (Option·none-ne-some number (sym (ap (λ (l : Left). l .refusal) (sane′ ∙ ap (λ (f : Option Fill). tookOver f r) o)) ∙ is))
+          absurd (Option·none-ne-some number (sym (ap (λ (l : Left). l .refusal) (reports n ∙ ap (λ (f : Option Fill). tookOver f r) o)) ∙ is))
 
   pub seek-refused : (line byte number : ℕ) → seekOf line byte r .refusal ≡ some number → seekOf line byte r .reader ≡ r
   seek-refused line byte number is = go (misplaced line byte) refl (holds byte (r .fill)) refl

@@ -16,3 +16,4 @@ pub mod Reached
 pub mod Demand
 pub mod Refusals
 pub mod Progress
+pub mod Served

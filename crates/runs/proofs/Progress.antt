@@ -129,7 +129,7 @@ chances-most X s = go (s .reader .fill .told) refl
     go false u = rw (untold X s u) (omega arith)
 
 -- without a chance the end was told
-no-chance : (X : List ℕ) (s : State) → chances X s ≡ 0 → s .reader .fill .told ≡ true
+pub no-chance : (X : List ℕ) (s : State) → chances X s ≡ 0 → s .reader .fill .told ≡ true
 no-chance X s z = go (s .reader .fill .told) refl
   where
     go : (u : Bool) → s .reader .fill .told ≡ u → s .reader .fill .told ≡ true

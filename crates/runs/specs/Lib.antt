@@ -4,4 +4,5 @@ pub mod Demand
 pub mod Refusals
 pub mod Position
 pub mod Progress
+pub mod Served
 pub mod Standing
