@@ -5,4 +5,5 @@ pub mod Refusals
 pub mod Position
 pub mod Progress
 pub mod Served
+pub mod Resume
 pub mod Standing
