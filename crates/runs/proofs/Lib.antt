@@ -17,3 +17,4 @@ pub mod Demand
 pub mod Refusals
 pub mod Progress
 pub mod Served
+pub mod Position

@@ -156,7 +156,7 @@ module _ (X : List ℕ) (C T : ℕ) where
       same-state h₁ s₁ _ number (seek-refused X C (s₁ .reader) (s₁ .window) (s₁ .table) (before .tells) line byte number is) before
 
 -- the reader that setup made
-made-is : (capacity : ℕ) (p : Policy) (window slots : ℕ) (r : Reader) → setupOf capacity p window slots ≡ some r → made capacity p window slots ≡ r
+pub made-is : (capacity : ℕ) (p : Policy) (window slots : ℕ) (r : Reader) → setupOf capacity p window slots ≡ some r → made capacity p window slots ≡ r
 unfolding setupOf
 made-is capacity p window slots r is = go (setupRefused capacity window slots) refl
   where
