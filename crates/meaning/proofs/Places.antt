@@ -102,7 +102,7 @@ module _ (X : List ℕ) where
   lead-stand (refusal l x) = tt
   lead-stand (start l b xs e h k) = subst Stand (sym (marks-records X l b xs e)) (records-stand l b (62 ∷ xs) e h k)
 
-  stand-at : (before : List Rec) (r : Rec) (behind : List Rec) → Stand (before ++ r ∷ behind) → Stands r behind
+  pub stand-at : (before : List Rec) (r : Rec) (behind : List Rec) → Stand (before ++ r ∷ behind) → Stands r behind
   stand-at [] r behind s = s .0
   stand-at (x ∷ before) r behind s = stand-at before r behind (s .1)
 

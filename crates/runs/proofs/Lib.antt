@@ -18,3 +18,4 @@ pub mod Refusals
 pub mod Progress
 pub mod Served
 pub mod Position
+pub mod Resume
