@@ -27,7 +27,7 @@ use Rattle.rewrite.specs.Wrap.{linesOf, headPart, wrapLen, linesText, Wh
 use Rattle.rewrite.proofs.Columns.{iter-length, iter-wide}
 
 -- what a writer makes of the head and the lines
-abbrev Written : Type 0
+abbrev pub Written : Type 0
 Written = (head : List ℕ) (ls : List (List ℕ)) → Left
 
 module _ (w : List ℕ) (start : ℕ) where

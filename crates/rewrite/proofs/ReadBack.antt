@@ -1,0 +1,2 @@
+-- Reading back what a record's writers wrote. Assumes nothing.
+use Prim.Native.Nat.{ℕ}
