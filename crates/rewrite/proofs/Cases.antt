@@ -1,5 +1,5 @@
 -- The cases of `write_unchanged`, as its functions meet them: no end, an end that does not rise, and the copy with or without a `\n` behind
--- it. Assumes nothing.
+-- it. And what `copy` and `write_head` leave, as texts put (`Put`). Assumes nothing.
 use Prim.Native.Nat.{ℕ, suc, _+_, _-_, _≤_, _<_}
 use native.Mathlib.Omega.{arith}
 use native.Mathlib.Nat.{zero-add}

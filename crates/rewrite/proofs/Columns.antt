@@ -16,6 +16,7 @@ use Rattle.write.specs.Put.{Fits}
 use Rattle.write.specs.Text.{seqText, wrapSeqText, wrapSeqIterText}
 use Rattle.write.proofs.Lengths.{lines-none, lines-some, wrap-length}
 use Rattle.write.proofs.Putting.{first-fits, fits-as, Rest, rest-all, rest-next, rest-none, put-as, put-both}
+use Rattle.write.proofs.ReadBack.{no-bytes}
 use Rattle.write.proofs.Wrap.{wrap-none, wrap-line, by-lines}
 use Rattle.rewrite.specs.Wrap.{wrapOn, columnOn, Goes, Reached, wrapLen}
 use Rattle.rewrite.specs.declared.wrap.Column.{Column}
@@ -229,10 +230,6 @@ iter-parts wrap w ls = go (joined ls)
     go : (s : List ℕ) → iter wrap s ≡ wrapOn wrap 0 s ++ closing (length s) (columnOn wrap 0 s)
     go [] = refl
     go (x ∷ s) = iter-more wrap x s ∙ wrap-on wrap w (x ∷ s)
-
-no-bytes : (s : List ℕ) → length s ≡ 0 → s ≡ []
-no-bytes [] e = refl
-no-bytes (x ∷ s) e = absurd (omega arith)
 
 -- where nothing was put there is nothing
 nothing-on : (wrap col : ℕ) (seq : List ℕ) → length (wrapOn wrap col seq) ≡ 0 → length seq ≡ 0

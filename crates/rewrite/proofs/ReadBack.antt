@@ -1,15 +1,15 @@
 -- Reading back what a record's writers wrote (01): under its conditions on head and sequence where they are written anew, and with no condition
 -- where a record of an input is written unchanged. In such a record no other one begins, so its copy is one record, and the copy has the same
 -- lines but for an empty one at the end. Assumes nothing.
-use Prim.Native.Nat.{ℕ, suc, _≤_, _<_}
+use Prim.Native.Nat.{ℕ, suc, _<_}
 use native.Mathlib.Omega.{arith}
 use mathlib.Core.Bool.{Bool, true, false, _&&_, false≢true}
 use mathlib.Core.List.{List, [], _∷_, _++_, map}
 use mathlib.Core.Path.{_≡_, refl, sym, ap, _∙_, subst}
-use lib.ListN.{length, getD, take, drop, length-append}
+use lib.ListN.{length, getD, take, drop}
 use lib.Seq.{take-at}
 use lib.Dec.{eqb, leb}
-use borrow.Author.Tests.{eqb-true, ne-eqb}
+use borrow.Author.Tests.{eqb-true, eqb-false, ne-eqb}
 use Rattle.meaning.specs.Line.{lines, onFirst, trimLast, trimCr}
 use Rattle.meaning.specs.Input.{Rec, Split, recordsFrom, Meaning, records, refused, meaning}
 use Rattle.meaning.specs.Parts.{headOf, seqLines, seqOf, joined}
@@ -18,9 +18,14 @@ use Rattle.meaning.proofs.Bytes.{cut, put, after, recs-cut}
 use Rattle.meaning.proofs.Lines.{lines-nil, lines-lf, lines-on}
 use Rattle.meaning.proofs.OnePass.{seen, marks-records, whole-meaning, Lead, nothing, refusal, start, whole-lead}
 use Rattle.reader.proofs.Sanity.{and-true}
+use Rattle.write.specs.Output.{Answer, wrote, refuses, Left, need, filled, wrapped}
 use Rattle.write.specs.Text.{recordText, recordWrapText, endsIn, unchangedText, copyOf}
 use Rattle.write.specs.ReadBack.{GoodHead, GoodSeq, ReadsBack}
 use Rattle.write.proofs.ReadBack.{to-back, wrap-iter-back}
+use Rattle.view.proofs.Meaning.{Stands}
+use Rattle.rewrite.specs.Rewrite.{left, WriteIn, WriteWrapIn, WriteUnchangedIn}
+use Rattle.rewrite.specs.declared.Rewrote.the-variants.{Done, Wrap, Room}
+use Rattle.rewrite.proofs.Meaning.{write-is, write-wrap-is, write-unchanged-is}
 
 -- `write` and `write_wrap`
 pub write-back : (r : Rec) → GoodHead (headOf r) → GoodSeq (seqOf r) → ReadsBack (recordText (headOf r) (seqLines r)) (headOf r) (seqOf r)
@@ -279,3 +284,54 @@ unchanged-back X before r behind e =
 pub unchanged-back-from : (l b : ℕ) (xs : List ℕ) (before : List Rec) (r : Rec) (behind : List Rec) → recordsFrom l b xs ≡ before ++ r ∷ behind
     → ReadsBack (unchangedText (copyOf r)) (headOf r) (seqOf r)
 unchanged-back-from l b xs before r behind e = begins-back r (begin-at before r behind (subst Begin e (from-begin l b xs)))
+
+-- the length that an answer says was written
+abbrev isWrote : Answer → Bool
+isWrote (wrote n) = true
+isWrote (refuses number values) = false
+
+abbrev writtenBy : Answer → ℕ
+writtenBy (wrote n) = n
+writtenBy (refuses number values) = 0
+
+-- what a call wrote: the front of the output, as long as it answers
+done-text : (text out : List ℕ) (n : ℕ) (exit : List ℕ) → left (Done n) exit ≡ filled text out → take n exit ≡ text
+unfolding filled
+done-text text out n exit e = go (leb (length text) (length out)) refl
+  where
+    go : (t : Bool) → leb (length text) (length out) ≡ t → take n exit ≡ text
+    go true t =
+        let d : left (Done n) exit ≡ left (Done (length text)) (text ++ drop (length text) out) = e ∙ rw t in
+        (λ i. take (writtenBy (d i .answer)) (d i .out)) ∙ take-at text (drop (length text) out) (length text) refl
+    go false t =
+        let d : left (Done n) exit ≡ left (Room (need text)) out = e ∙ rw t in
+        absurd (false≢true (sym (ap (λ (l : Left). isWrote (l .answer)) d)))
+
+wrap-text : (wrap : ℕ) (text out : List ℕ) (n : ℕ) (exit : List ℕ) → left (Done n) exit ≡ wrapped wrap text out → (0 < wrap) × (take n exit ≡ text)
+unfolding wrapped
+wrap-text wrap text out n exit e = go (eqb wrap 0) refl
+  where
+    go : (t : Bool) → eqb wrap 0 ≡ t → (0 < wrap) × (take n exit ≡ text)
+    go true t =
+        let d : left (Done n) exit ≡ left Wrap out = e ∙ rw t in
+        absurd (false≢true (sym (ap (λ (l : Left). isWrote (l .answer)) d)))
+    go false t = (let ne = eqb-false wrap 0 t in omega arith, done-text text out n exit (e ∙ rw t))
+
+-- The calls: what they wrote of a record that stands in the bytes reads back.
+module _ (X : List ℕ) (start : ℕ) (r : Rec) (ends : List ℕ) (s : Stands X start r ends) (out : List ℕ) (n : ℕ) (exit : List ℕ) where
+  pub write-in-back : GoodHead (headOf r) → GoodSeq (seqOf r) → WriteIn X start ends out (Done n) exit → ReadsBack (take n exit) (headOf r) (seqOf r)
+  write-in-back g w p =
+      let e = done-text (recordText (headOf r) (seqLines r)) out n exit (p ∙ write-is X start r ends s out) in
+      rw e (write-back r g w)
+
+  pub write-wrap-in-back : (wrap : ℕ) → GoodHead (headOf r) → GoodSeq (seqOf r) → WriteWrapIn X start ends wrap out (Done n) exit
+      → ReadsBack (take n exit) (headOf r) (seqOf r)
+  write-wrap-in-back wrap g w p =
+      let e = wrap-text wrap (recordWrapText (headOf r) (seqLines r) wrap) out n exit (p ∙ write-wrap-is X start r ends s wrap out) in
+      rw (e .1) (write-wrap-back r wrap (e .0) g w)
+
+  pub write-unchanged-in-back : (input : List ℕ) (before behind : List Rec) → meaning input ≡ records (before ++ r ∷ behind)
+      → WriteUnchangedIn X start ends out (Done n) exit → ReadsBack (take n exit) (headOf r) (seqOf r)
+  write-unchanged-in-back input before behind m p =
+      let e = done-text (unchangedText (copyOf r)) out n exit (p ∙ write-unchanged-is X start r ends s out) in
+      rw e (unchanged-back input before r behind m)

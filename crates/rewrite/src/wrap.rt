@@ -71,7 +71,7 @@ fn put_line(line: &[u8], col: usize, wrap: usize, out: &mut [u8], at: usize) -> 
     let mut used = col;
     let mut i = 0;
     while i < line.len() {
-        let to = i + less(line.len() - i, wrap - used);
+        let to = i + smaller(line.len() - i, wrap - used);
         let end = put_piece(&line[i..to], used, wrap, out, here);
         here = end.at;
         used = end.col;
@@ -104,7 +104,7 @@ fn put_piece(piece: &[u8], col: usize, wrap: usize, out: &mut [u8], at: usize) -
 }
 
 // The smaller of two numbers.
-fn less(a: usize, b: usize) -> usize
+fn smaller(a: usize, b: usize) -> usize
     ensures { λ r. ⌜ r ≡ min a b ⌝ }
 {
     if a < b { a } else { b }

@@ -6,8 +6,8 @@ use mathlib.Core.Path.{_∙_}
 use borrow.Author.Needs.{needs}
 use Rattle.view.proofs.Inside.{window-part, ends-part, in-case}
 use Rattle.rewrite.specs.Rewrite.{refused, unchangedIn}
-use Rattle.rewrite.proofs.current.write_unchanged.Tie as tie
 use Rattle.rewrite.proofs.current.write_unchanged.Statement.{statement}
+use Rattle.rewrite.proofs.current.write_unchanged.Tie as tie
 
 current-requires : tie.Need-current-requires
 current-requires c κs = search needs

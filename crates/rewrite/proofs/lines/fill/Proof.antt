@@ -1,20 +1,20 @@
 -- `fill`: by the length of head and lines the text is refused, or head and lines are put one behind the other. Assumes nothing.
 use Prim.Native.Nat.{ℕ}
 use native.Mathlib.Omega.{arith}
-use mathlib.Core.Path.{refl, sym, _∙_}
 use mathlib.Core.List.{List}
+use mathlib.Core.Path.{refl, sym, _∙_}
 use lib.ListN.{getD}
 use borrow.Author.Needs.{needs}
+use Rattle.view.proofs.Joins.{Others}
+use Rattle.write.proofs.Filling.{fill-refused, fill-done}
+use Rattle.write.proofs.Putting.{second-fits, put-both}
+use Rattle.write.specs.Output.{filled}
 use Rattle.write.specs.Put.{Fits}
 use Rattle.write.specs.Text.{wrapSeqIterText}
-use Rattle.view.proofs.Joins.{Others}
-use Rattle.write.specs.Output.{filled}
-use Rattle.write.proofs.Putting.{second-fits, put-both}
-use Rattle.write.proofs.Filling.{fill-refused, fill-done}
 use Rattle.rewrite.specs.Wrap.{linesOf, linesText}
 use Rattle.rewrite.proofs.Records.{first, behind, head-short, seq-few, text-long, text-few, text-of}
-use Rattle.rewrite.proofs.lines.fill.Tie as tie
 use Rattle.rewrite.proofs.lines.fill.Statement.{statement}
+use Rattle.rewrite.proofs.lines.fill.Tie as tie
 
 shared-slice-read-end : tie.Need-shared-slice-read-end
 shared-slice-read-end c = search needs

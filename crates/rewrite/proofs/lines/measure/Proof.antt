@@ -3,15 +3,15 @@
 use Prim.Native.Nat.{suc, _+_, _-_, _≤_}
 use native.Mathlib.Omega.{arith}
 use mathlib.Core.Bool.{false≢true}
-use mathlib.Core.Path.{_≡_, refl, sym, ap, _∙_}
 use mathlib.Core.Logic.{⊎-elim}
+use mathlib.Core.Path.{_≡_, refl, sym, ap, _∙_}
 use lib.ListN.{length, getD, drop}
 use borrow.Author.Tests.{ltb-true, ltb-false}
 use Rattle.view.proofs.Heads.{line-within}
 use Rattle.view.proofs.Joins.{joined-end, length-turn}
-use Rattle.view.specs.Rising.{rising}
-use Rattle.view.specs.Full.{joinedAt}
 use Rattle.view.proofs.Rises.{turn-rises, turn-falls, turn-ends}
+use Rattle.view.specs.Full.{joinedAt}
+use Rattle.view.specs.Rising.{rising}
 use Rattle.rewrite.proofs.lines.measure.Statement.{statement}
 use Rattle.rewrite.proofs.lines.measure.Tie as tie
 

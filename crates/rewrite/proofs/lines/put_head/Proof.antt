@@ -1,6 +1,6 @@
 -- `put_head` is `write_head`, or nothing. Assumes nothing.
-use mathlib.Core.Path.{_≡_, ap}
 use mathlib.Core.Bool.{Bool}
+use mathlib.Core.Path.{_≡_, ap}
 use borrow.Author.Needs.{needs}
 use Rattle.write.proofs.Putting.{put-as, fits-as}
 use Rattle.write.specs.Text.{headText}

@@ -1,13 +1,13 @@
 -- `wrap_len` adds a `\n` for each line. There are no more lines than bytes, so that the sum fits. Assumes nothing.
 use Prim.Native.Nat.{_-_}
-use native.Mathlib.Omega.{arith}
 use native.Mathlib.Nat.{div-le-self}
+use native.Mathlib.Omega.{arith}
 use mathlib.Core.Path.{_≡_, ap}
 use borrow.Author.Needs.{needs}
 use Rattle.write.proofs.Lengths.{lines-none, lines-some}
 use Rattle.write.specs.Need.{lineCount}
-use Rattle.rewrite.proofs.lines.wrap_len.Tie as tie
 use Rattle.rewrite.proofs.lines.wrap_len.Statement.{statement}
+use Rattle.rewrite.proofs.lines.wrap_len.Tie as tie
 
 sub-result : tie.Need-sub-result
 sub-result c = search needs

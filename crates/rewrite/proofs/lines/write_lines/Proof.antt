@@ -2,16 +2,16 @@
 use Prim.Native.Nat.{ℕ, _<_}
 use native.Mathlib.Omega.{arith}
 use mathlib.Core.Bool.{true}
-use mathlib.Core.Path.{_≡_, sym, _∙_}
 use mathlib.Core.List.{List}
+use mathlib.Core.Path.{_≡_, sym, _∙_}
 use borrow.Author.Needs.{needs}
 use borrow.Author.Tests.{not-true, not-false}
 use Rattle.write.proofs.Filling.{wrap-refused, wrap-fill}
 use Rattle.write.specs.Output.{filled, wrapped}
 use Rattle.rewrite.specs.Wrap.{linesText}
 use Rattle.rewrite.proofs.Records.{lines-empty, lines-fall, lines-rise, lines-same}
-use Rattle.rewrite.proofs.lines.write_lines.Tie as tie
 use Rattle.rewrite.proofs.lines.write_lines.Statement.{statement}
+use Rattle.rewrite.proofs.lines.write_lines.Tie as tie
 
 returns : tie.Need-returns
 returns c =

@@ -3,8 +3,8 @@ use native.Mathlib.Omega.{arith}
 use mathlib.Core.Path.{sym}
 use borrow.Author.Needs.{needs}
 use Rattle.rewrite.proofs.Cases.{ended-empty, ended-last}
-use Rattle.rewrite.proofs.unchanged.is_ended.Tie as tie
 use Rattle.rewrite.proofs.unchanged.is_ended.Statement.{statement}
+use Rattle.rewrite.proofs.unchanged.is_ended.Tie as tie
 
 returns : tie.Need-returns
 returns c = sym (ended-empty (c .before .args .copy .now) (c .if1 .taken))

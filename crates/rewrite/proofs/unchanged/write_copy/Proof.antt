@@ -1,14 +1,14 @@
 -- `write_copy` fills the output with the copy, and with a `\n` behind one that does not end in it; by the need it refuses. Assumes nothing.
 use native.Mathlib.Omega.{arith}
-use mathlib.Core.Path.{refl, sym, _∙_}
 use mathlib.Core.List.{[], _∷_}
+use mathlib.Core.Path.{refl, sym, _∙_}
 use lib.ListN.{length}
 use borrow.Author.Needs.{needs}
-use Rattle.write.specs.Put.{Fits}
-use Rattle.write.proofs.Lengths.{seq-length}
 use Rattle.write.proofs.Filling.{fill-refused, fill-done}
-use Rattle.write.specs.Text.{seqText}
+use Rattle.write.proofs.Lengths.{seq-length}
 use Rattle.write.proofs.Putting.{put-both}
+use Rattle.write.specs.Put.{Fits}
+use Rattle.write.specs.Text.{seqText}
 use Rattle.rewrite.proofs.Cases.{ended-text, open-text, put-at, put-front}
 use Rattle.rewrite.proofs.unchanged.write_copy.Statement.{statement}
 use Rattle.rewrite.proofs.unchanged.write_copy.Tie as tie

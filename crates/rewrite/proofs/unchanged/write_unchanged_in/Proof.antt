@@ -1,7 +1,7 @@
 -- `write_unchanged_in` tests the last end and leaves the rest to `write_copy`. Assumes nothing.
 use native.Mathlib.Omega.{arith}
-use mathlib.Core.Path.{sym, _∙_}
 use mathlib.Core.Logic.{⊎-elim}
+use mathlib.Core.Path.{sym, _∙_}
 use borrow.Author.Needs.{needs}
 use borrow.Author.Tests.{ltb-true, ltb-false}
 use Rattle.rewrite.proofs.Cases.{unchanged-empty, unchanged-falls, unchanged-some}

@@ -2,8 +2,8 @@
 use Prim.Native.Nat.{suc, _+_, _-_}
 use native.Mathlib.Omega.{arith}
 use lib.ListN.{length, getD, drop}
-use Rattle.view.specs.Full.{Lines, joinedAt}
 use Rattle.view.proofs.Joins.{lines-at, joined-end, joined-turn}
+use Rattle.view.specs.Full.{Lines, joinedAt}
 use Rattle.rewrite.proofs.Columns.{Due, due-all, due-as, due-front, due-next, due-none}
 use Rattle.rewrite.proofs.wrap.put_lines.Statement.{statement}
 use Rattle.rewrite.proofs.wrap.put_lines.Tie as tie

@@ -4,14 +4,14 @@ use mathlib.Core.List.{[], _∷_}
 use mathlib.Core.Logic.{⊎-elim}
 use mathlib.Core.Path.{_≡_, sym, _∙_}
 use borrow.Author.Needs.{needs}
-use Rattle.write.specs.Text.{seqText, wrapSeqIterText}
-use Rattle.write.proofs.Putting.{put-as, put-both, fits-as}
 use Rattle.meaning.specs.Parts.{joined}
+use Rattle.write.proofs.Putting.{put-as, put-both, fits-as}
+use Rattle.write.specs.Text.{seqText, wrapSeqIterText}
 use Rattle.rewrite.specs.Wrap.{linesOf, wrapOn}
 use Rattle.rewrite.proofs.Cases.{put-at}
 use Rattle.rewrite.proofs.Columns.{iter-goes, iter-nothing, iter-full, iter-open}
-use Rattle.rewrite.proofs.wrap.put_wrapped.Tie as tie
 use Rattle.rewrite.proofs.wrap.put_wrapped.Statement.{statement}
+use Rattle.rewrite.proofs.wrap.put_wrapped.Tie as tie
 
 put-lines-requires : tie.Need-put-lines-requires
 put-lines-requires c κs =
