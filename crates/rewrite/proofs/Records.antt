@@ -19,7 +19,7 @@ use Rattle.view.proofs.Joins.{Others, others-are, full-lines}
 use Rattle.view.proofs.Rises.{first-inside}
 use Rattle.write.specs.Need.{lineCount}
 use Rattle.write.specs.Output.{Left, filled, wrapped}
-use Rattle.write.specs.Text.{headText, wrapSeqIterText, recordText}
+use Rattle.write.specs.Text.{headText, wrapSeqIterText, recordText, recordWrapText}
 use Rattle.write.proofs.Filling.{wrap-fill}
 use Rattle.write.proofs.Lengths.{head-length, lines-none, lines-some}
 use Rattle.rewrite.specs.Rewrite.{refused, ofLines, writtenIn}
@@ -64,6 +64,12 @@ few-lines wrap n h = go (decLe n 0)
     go : Dec (n ≤ 0) → wrapLen wrap n ≤ n + max 1 n
     go (yes u) = let z : n ≡ 0 = omega arith in omega (arith, ap (lineCount wrap) z, lines-none wrap h)
     go (no u) = omega (arith, lines-some wrap n h (omega arith), div-le-self (n - 1) wrap)
+
+-- the need of a record's `write_wrap`; that of its `write` is `to-length` of the free writers
+pub record-wrap-length : (head : List ℕ) (ls : List (List ℕ)) (wrap : ℕ) → 0 < wrap
+    → length (recordWrapText head ls wrap) ≡ length head + 2 + wrapLen wrap (length (joined ls))
+record-wrap-length head ls wrap w =
+    omega (arith, length-append (headText head) (wrapSeqIterText wrap ls), head-length head, iter-length wrap w ls)
 
 head-part-few : (with : Bool) (head : List ℕ) → length (headPart with head) ≤ length head + 2
 head-part-few true head = omega (arith, head-length head)
