@@ -63,17 +63,17 @@ module _ (X : List ℕ) (start : ℕ) (r : Rec) (ends : List ℕ) (s : Stands X 
       let u : size r ≤ length (drop start X) = take-fits (size r) (drop start X) (ap length (s .there)) in
       omega (arith, length-drop start X)
 
-  rises : Rising start ends (length X)
+  pub rises : Rising start ends (length X)
   unfolding endsAt
   rises =
       rw (s .are, s .begins) (ends-rise (s .rest) false start (suc start) (length X) (omega arith) (omega (arith, inside)))
 
-  some-end : 0 < length ends
+  pub some-end : 0 < length ends
   unfolding endsAt
   some-end = rw (s .are, s .begins) (ends-some (s .rest) (suc start))
 
   -- the record's lines are cut out at its ends
-  cut : linesAt X start ends ≡ lines (r .bytes)
+  pub cut : linesAt X start ends ≡ lines (r .bytes)
   cut =
       let R = drop (size r) (drop start X) in
       rw (s .are) (lines-cut X (r .bytes) start R
@@ -90,7 +90,7 @@ module _ (X : List ℕ) (start : ℕ) (r : Rec) (ends : List ℕ) (s : Stands X 
   begun = record { there = some-end; above = above .0; inside = above .1; is = refl }
 
   -- the head
-  head-is : lineOf X (start + 1) (getD ends 0 0) ≡ headOf r
+  pub head-is : lineOf X (start + 1) (getD ends 0 0) ≡ headOf r
   unfolding headOf linesAt
   head-is = go ends cut (above .0) some-end
     where

@@ -144,7 +144,7 @@ cut-joined wrap h (suc steps) (x ∷ s) k =
     ap (λ (r : List ℕ). take wrap (x ∷ s) ++ r) (cut-joined wrap h steps (drop wrap (x ∷ s)) (omega (arith, length-drop wrap (x ∷ s))))
     ∙ take-append-drop wrap (x ∷ s)
 
-no-bytes : (s : List ℕ) → length s ≡ 0 → s ≡ []
+pub no-bytes : (s : List ℕ) → length s ≡ 0 → s ≡ []
 no-bytes [] e = refl
 no-bytes (x ∷ s) e = absurd (omega arith)
 
