@@ -16,7 +16,7 @@ use Rattle.meaning.specs.Input.{Rec, begins, Meaning, records, refused, records
 use Rattle.meaning.specs.Due as meant
 use Rattle.meaning.specs.Due.{due, dueBy, judged}
 use Rattle.meaning.proofs.Due.{due-gives, due-refuses}
-use Rattle.meaning.proofs.Places.{Stands, records-stand, stand-at, stands}
+use Rattle.meaning.proofs.Places.{Stands, Stand, records-stand, stand-at, stands}
 use Rattle.window.specs.Fill.{most, holds}
 use Rattle.reader.specs.declared.state.Reader.{Reader}
 use Rattle.reader.specs.declared.state.Phase.{Phase}
@@ -147,6 +147,11 @@ module _ (C T : ℕ) where
       go true q = names-due (records (recordsFrom line byte (drop byte X))) k l b q
       go false q = absurd (false≢true (ap isAt q))
 
+-- a place that was sought lies within the bounds of refusal 5
+abbrev Bound : Origin → Type 0
+Bound front = Unit {0}
+Bound (place l b) = (1 ≤ l) × (l ≤ suc b)
+
 -- what was heard names the places of records of the reading
 module _ (X : List ℕ) (C T : ℕ) (start : State) (made : Reached X C T [] start) where
   record Heard (h : List Event) : Type 0 where
@@ -194,21 +199,108 @@ module _ (X : List ℕ) (C T : ℕ) (start : State) (made : Reached X C T [] sta
   heard-run h s (by-refused-seek line byte number h₁ s₁ q is) =
       let before = heard-run h₁ s₁ q in record { last-given = before .last-given; position = before .position }
 
-  -- a place that was sought lies within the bounds of refusal 5
-  abbrev Bounded : Origin → Type 0
-  Bounded front = Unit {0}
-  Bounded (place l b) = (1 ≤ l) × (l ≤ suc b)
-
-  bounded : (h : List Event) (s : State) → Run X start h s → Bounded (origin h)
+  bounded : (h : List Event) (s : State) → Run X start h s → Bound (origin h)
   unfolding origin
   bounded h s begun = tt
   bounded h s (by-read h₁ s₁ q) = bounded h₁ s₁ q
   bounded h s (by-report n w h₁ s₁ q is b) = bounded h₁ s₁ q
   bounded h s (by-seek line byte h₁ s₁ q is) =
-      let f = seeks X C (s₁ .reader) (s₁ .window) (s₁ .table) (runs-on X C T start made h₁ s₁ q .tells) line byte is .1 in
-      (
+      let f = seeks X C (s₁ .reader) (s₁ .window) (s₁ .table) (runs-on X C T start made h₁ s₁ q .tells) line byte is .1 in (
         omega (arith, f .tells .is-good .is-sane .line-least, f .line-is),
         omega (arith, f .tells .is-good .is-sane .line-most, f .line-is, f .byte-is),
       )
   bounded h s (by-refused-report n number h₁ s₁ q is) = bounded h₁ s₁ q
   bounded h s (by-refused-seek line byte number h₁ s₁ q is) = bounded h₁ s₁ q
+
+-- a reading with records has a meaning that is records
+recs-are : (M : Meaning) (before : List Rec) (it : Rec) (behind : List Rec) → recs M ≡ before ++ it ∷ behind → M ≡ records (before ++ it ∷ behind)
+recs-are (records rs) before it behind e = ap records e
+recs-are (refused l x) before it behind e = absurd (none before e)
+  where
+    none : (q : List Rec) → [] ≡ q ++ it ∷ behind → ⊥
+    none [] e = let z : 0 ≡ suc (length behind) = ap length e in omega arith
+    none (x ∷ q) e = let z : 0 ≡ suc (length (q ++ it ∷ behind)) = ap length e in omega arith
+
+-- a record of a reading stands in the input before those behind it
+stands-there : (X : List ℕ) (o : Origin) (l b : ℕ) → Bound o → (p : Reported X o l b) → Stands X (p .it) (p .behind)
+stands-there X front l b k p = stands X (p .before) (p .it) (p .behind) (recs-are (meaning X) (p .before) (p .it) (p .behind) (p .same))
+stands-there X (place line byte) l b k p =
+    stand-at X (p .before) (p .it) (p .behind) (subst (Stand X) (p .same) (records-stand X line byte (drop byte X) refl (k .0) (k .1)))
+
+-- a place that the reader shows is no farther than 2^62
+shown-byte : (r : Reader) → Sane r → (l b : ℕ) → placeOf r ≡ at l b → b ≤ most
+shown-byte r s l b is = go (r .phase) (sym (place-shown r (sane-true r s) (r .phase) refl) ∙ is)
+  where
+    there : at (r .mark .line) (byteOf r) ≡ at l b → b ≤ most
+    there e = let z : byteOf r ≡ b = ap byteAt e in omega (arith, sane-byte r s)
+
+    go : (p : Phase) → shownIn p r ≡ at l b → b ≤ most
+    go phase.Lead e = absurd (false≢true (ap isAt e))
+    go phase.Sought e = absurd (false≢true (ap isAt e))
+    go phase.Searching e = absurd (false≢true (ap isAt e))
+    go phase.Current e = there e
+    go phase.Ended e = there e
+    go phase.Over e = absurd (false≢true (ap isAt e))
+    go phase.Window e = there e
+    go phase.Table e = there e
+    go phase.Astray e = absurd (false≢true (ap isAt e))
+
+-- a seek to a place within the bounds of refusal 5 is accepted
+accepts : (r : Reader) → Sane r → (l b : ℕ) → 1 ≤ l → l ≤ b + 1 → b ≤ most → seekOf l b r .refusal ≡ none
+unfolding misplaced
+accepts r s l b h k m = go (holds b (r .fill)) refl
+  where
+    fine : misplaced l b ≡ false
+    fine = rw (ne-eqb l 0 (λ z. omega arith), le-ltb (b + 1) l k, le-ltb most b m)
+
+    go : (t : Bool) → holds b (r .fill) ≡ t → seekOf l b r .refusal ≡ none
+    go true t = ap (λ (x : Left). x .refusal) (seek-in r l b (sane-true r s) fine t)
+    go false t = ap (λ (x : Left). x .refusal) (seek-out r l b (sane-true r s) fine t)
+
+-- what is due from such a place on
+due-there : (X : List ℕ) (C T l b : ℕ) (it : Rec) (behind : List Rec) → Stands X it behind → it .line ≡ l → it .byte ≡ b
+    → dueFrom X C T (place l b) ≡ due C T (records (it ∷ behind))
+unfolding dueFrom
+due-there X C T l b it behind s line byte =
+    let mark : drop b X ≡ 62 ∷ drop (suc b) X =
+    drop-cons X b 0 (omega (arith, s .there, byte)) ∙ ap (λ (x : ℕ). x ∷ drop (suc b) X) (ap (λ (n : ℕ). getD X n 0) (sym byte) ∙ s .mark) in
+    let same : recordsFrom l b (drop b X) ≡ it ∷ behind = (λ i. recordsFrom (sym line i) (sym byte i) (drop (sym byte i) X)) ∙ s .again in
+    ap (λ (t : Bool). cond t (due C T (records (recordsFrom l b (drop b X)))) (meant.refuses 5 [] ∷ [])) (ap begins mark)
+    ∙ ap (λ (rs : List Rec). due C T (records rs)) same
+
+pub resumes : Resumes
+resumes X capacity policy start made h s r l b is = (reported, λ capacity₂ policy₂ start₂ made₂. (accepted capacity₂ policy₂ start₂ made₂, follows capacity₂ policy₂ start₂ made₂))
+  where
+    reach : Reached X (largest policy (length (start .window)) capacity) (length (start .table)) [] start
+    reach = reached-made X capacity policy start made
+
+    here : Reached X (largest policy (length (start .window)) capacity) (length (start .table)) h s
+    here = runs-on X _ _ start reach h s r
+
+    found : Among (recordsOf X (origin h)) l b
+    found = heard-run X _ _ start reach h s r .position l b (sym (positions X capacity policy start made h s r) ∙ is)
+
+    reported : Reported X (origin h) l b
+    reported =
+        record { before = found .before; it = found .it; behind = found .behind; same = found .same; line-is = found .line-is; byte-is = found .byte-is }
+
+    stand : Stands X (found .it) (found .behind)
+    stand = stands-there X (origin h) l b (bounded X _ _ start reach h s r) reported
+
+    accepted : (capacity₂ : ℕ) (policy₂ : Policy) (start₂ : State) → Made capacity₂ policy₂ start₂ → seekOf l b (start₂ .reader) .refusal ≡ none
+    accepted capacity₂ policy₂ start₂ made₂ =
+        accepts (start₂ .reader) (reached-made X capacity₂ policy₂ start₂ made₂ .tells .is-good .is-sane) l b
+        (omega (arith, stand .line-least, found .line-is)) (omega (arith, stand .line-most, found .line-is, found .byte-is))
+        (shown-byte (s .reader) (here .tells .is-good .is-sane) l b is)
+
+    follows :
+        (capacity₂ : ℕ) (policy₂ : Policy) (start₂ : State) → Made capacity₂ policy₂ start₂ →
+        (h₂ : List Event) (s₂ : State) → Run X start₂ h₂ s₂ → origin h₂ ≡ place l b →
+        Hears (reading s₂ .said)
+        (nth (answers h₂) (due (largest policy₂ (length (start₂ .window)) capacity₂) (length (start₂ .table)) (records (found .it ∷ found .behind))))
+        (afterRead s₂)
+    follows capacity₂ policy₂ start₂ made₂ h₂ s₂ r₂ at-place =
+        subst (λ (d : List (meant.Said Rec)). Hears (reading s₂ .said) (nth (answers h₂) d) (afterRead s₂))
+        (ap (dueFrom X (largest policy₂ (length (start₂ .window)) capacity₂) (length (start₂ .table))) at-place
+        ∙ due-there X (largest policy₂ (length (start₂ .window)) capacity₂) (length (start₂ .table)) l b (found .it) (found .behind) stand (found .line-is) (found .byte-is))
+        (demand3 X capacity₂ policy₂ start₂ made₂ h₂ s₂ r₂)

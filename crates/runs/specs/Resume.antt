@@ -21,7 +21,6 @@ recs (records rs) = rs
 recs (refused l x) = []
 
 abbrev pub recordsOf : (X : List ℕ) → Origin → List Rec
-unfolding meaning recordsFrom
 recordsOf X front = recs (meaning X)
 recordsOf X (place l b) = recordsFrom l b (drop b X)
 
