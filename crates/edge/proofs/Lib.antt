@@ -1,2 +1,3 @@
--- Laws of what the edge tells, and that each promise allows one answer.
+-- The policy of each kind, and that each promise of the edge allows one answer.
 pub mod Policies
+pub mod Unique

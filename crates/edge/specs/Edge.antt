@@ -2,6 +2,7 @@
 -- crates below; here stands only how it is told to a C program. Assumes nothing.
 use Prim.Native.Nat.{ℕ}
 use mathlib.Core.Bool.{Bool, true, false, cond}
+use mathlib.Core.List.{List, [], _∷_}
 use mathlib.Core.Option.{Option, none, some}
 use mathlib.Core.Path.{_≡_}
 use lib.Dec.{eqb}
@@ -10,6 +11,9 @@ use Rattle.growth.specs.declared.Policy.{Policy}
 use Rattle.growth.specs.declared.Policy.the-variants.{StdPolicy, DoubleUntil, DoubleUntilLimited}
 use Rattle.reader.specs.Calls.{setupOf}
 use Rattle.reader.specs.declared.state.Reader.{Reader}
+use Rattle.write.specs.Text.{headText, idDescText, seqText, wrapSeqText, toText, partsText, wrapText}
+use Rattle.write.specs.Output.{Answer, wrote, refuses, Left, filled, wrapped, described, left}
+use Rattle.write.specs.declared.Wrote.{Wrote}
 use Rattle.edge.specs.declared.policy.Chosen.{Chosen}
 use Rattle.edge.specs.declared.policy.Chosen.the-variants as chosen
 
@@ -53,3 +57,53 @@ setupNumber (some r) = 0
 
 abbrev pub SetupIs : (capacity kind n limit window slots : ℕ) → (number : ℕ) → Type 0
 SetupIs capacity kind n limit window slots number = number ≡ setupNumber (setupBy (policyOf kind n limit) capacity window slots)
+
+-- a writer's answer: 0 and the length written, or a refusal's number and its value, 0 if it has none
+abbrev pub numberOf : Answer → ℕ
+numberOf (wrote n) = 0
+numberOf (refuses number values) = number
+
+abbrev pub firstOf : List ℕ → ℕ
+firstOf [] = 0
+firstOf (v ∷ vs) = v
+
+abbrev pub lengthOf : Answer → ℕ
+lengthOf (wrote n) = n
+lengthOf (refuses number values) = firstOf values
+
+-- a writer's answer as numbers, and the output behind it
+pub record Told : Type 0 where
+  pub number : ℕ
+  pub len : ℕ
+  pub out : List ℕ
+
+abbrev pub tells : (number len : ℕ) → (exit : List ℕ) → Told
+tells number len exit = record { number = number; len = len; out = exit }
+
+abbrev pub told : Left → Told
+told l = tells (numberOf (l .answer)) (lengthOf (l .answer)) (l .out)
+
+abbrev pub ToldBy : Wrote → (number len : ℕ) → Type 0
+ToldBy r number len = (exit : List ℕ) → tells number len exit ≡ told (left r exit)
+
+-- the promises of the writers
+abbrev pub WriteHeadIs : (head out : List ℕ) → (number len : ℕ) → (exit : List ℕ) → Type 0
+WriteHeadIs head out number len exit = tells number len exit ≡ told (filled (headText head) out)
+
+abbrev pub WriteIdDescIs : (id : List ℕ) → Bool → (desc out : List ℕ) → (number len : ℕ) → (exit : List ℕ) → Type 0
+WriteIdDescIs id with desc out number len exit = tells number len exit ≡ told (filled (idDescText id (described with desc)) out)
+
+abbrev pub WriteSeqIs : (seq out : List ℕ) → (number len : ℕ) → (exit : List ℕ) → Type 0
+WriteSeqIs seq out number len exit = tells number len exit ≡ told (filled (seqText seq) out)
+
+abbrev pub WriteWrapSeqIs : (seq : List ℕ) (wrap : ℕ) (out : List ℕ) → (number len : ℕ) → (exit : List ℕ) → Type 0
+WriteWrapSeqIs seq wrap out number len exit = tells number len exit ≡ told (wrapped wrap (wrapSeqText wrap seq) out)
+
+abbrev pub WriteToIs : (head seq out : List ℕ) → (number len : ℕ) → (exit : List ℕ) → Type 0
+WriteToIs head seq out number len exit = tells number len exit ≡ told (filled (toText head seq) out)
+
+abbrev pub WritePartsIs : (id : List ℕ) → Bool → (desc seq out : List ℕ) → (number len : ℕ) → (exit : List ℕ) → Type 0
+WritePartsIs id with desc seq out number len exit = tells number len exit ≡ told (filled (partsText id (described with desc) seq) out)
+
+abbrev pub WriteWrapIs : (id : List ℕ) → Bool → (desc seq : List ℕ) (wrap : ℕ) (out : List ℕ) → (number len : ℕ) → (exit : List ℕ) → Type 0
+WriteWrapIs id with desc seq wrap out number len exit = tells number len exit ≡ told (wrapped wrap (wrapText id (described with desc) seq wrap) out)
