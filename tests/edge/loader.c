@@ -89,6 +89,10 @@ static size_t room;
 static uint8_t canary(size_t at) { return (uint8_t)(0x80 + at % 97); }
 
 static uint8_t *lend_output(size_t n) {
+    if (n > MOST) {
+        printf("edge: no room for an output of %zu bytes\n", n);
+        exit(2);
+    }
     for (size_t i = 0; i < sizeof field; i++) field[i] = canary(i);
     room = n;
     return n ? field + GUARD : NULL;
@@ -177,11 +181,16 @@ static void refuses_width_0(writer *w, struct record r) {
 }
 
 #define BASES "ACGTTGCAACGGTTACGTACCATGACGTTGCAACGGTTACGTACCATGACGTTGCAACGG" /* 60 */
-static const struct record plain = { "id some words", "id", "some words", "ACGTACGTAC", true, 4 };
-static const struct record bare = { "", "", NULL, "", false, 4 };                   /* nothing in any part */
-static const struct record null = { NULL, NULL, NULL, NULL, true, SIZE_MAX };       /* NULL with length 0, an empty description */
-static const struct record lines = { "a\r\n>b", "a b", "c", ">A\nC\r", true, 1 };    /* bytes that mean something are written as they are */
-static const struct record broad = { BASES, BASES, BASES, BASES BASES, true, 60 };
+
+static const struct record plain = { .head = "id some words", .id = "id", .desc = "some words", .seq = "ACGTACGTAC", .with_desc = true, .wrap = 4 };
+/* nothing in any part */
+static const struct record bare = { .head = "", .id = "", .seq = "", .wrap = 4 };
+/* NULL with length 0, with an empty description */
+static const struct record null = { .with_desc = true, .wrap = SIZE_MAX };
+/* bytes that mean something are written as they are */
+static const struct record lines = { .head = "a\r\n>b", .id = "a b", .desc = "c", .seq = ">A\nC\r", .with_desc = true, .wrap = 1 };
+/* long enough for the loops that copy many bytes at once */
+static const struct record broad = { .head = BASES, .id = BASES, .desc = BASES, .seq = BASES BASES, .with_desc = true, .wrap = 60 };
 
 static struct record unlike(struct record r, bool with_desc, size_t width) {
     r.with_desc = with_desc;
@@ -189,7 +198,8 @@ static struct record unlike(struct record r, bool with_desc, size_t width) {
     return r;
 }
 
-static void writers(void) {
+/* heads and sequences */
+static void part_writers(void) {
     writes(head, plain, ">id some words\n");
     writes(head, bare, ">\n");
     writes(head, null, ">\n");
@@ -223,7 +233,9 @@ static void writers(void) {
     refuses_width_0(wrap_seq, plain);
     refuses_width_0(wrap_seq, null);
     done("larizemba_write_wrap_seq");
+}
 
+static void record_writers(void) {
     writes(to, plain, ">id some words\nACGTACGTAC\n");
     writes(to, bare, ">\n\n");
     writes(to, null, ">\n\n");
@@ -332,7 +344,8 @@ int main(int argc, char **argv) {
     make_inputs();
     growth();
     setup();
-    writers();
+    part_writers();
+    record_writers();
     printf("edge: %u checks, %u failed\n", checks, failed);
     return failed != 0;
 }

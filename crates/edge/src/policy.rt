@@ -1,6 +1,7 @@
 // Growth and the setup test. A policy comes as the number of its kind with n and limit beside it.
 use growth::Growth;
 use growth::Policy;
+use reader::Reader;
 ghost use Rattle.edge.specs.Edge.{PolicyIs, GrowIs, SetupIs};
 
 // The policy of a kind, if there is one.
@@ -62,7 +63,7 @@ pub extern "C" fn larizemba_setup_check(
     let Chosen::Policy(_) = policy_of(kind, n, limit) else {
         return 1;
     };
-    if capacity < 3 || window < capacity {
+    if capacity < Reader::MIN || window < capacity {
         return 1;
     }
     if 2147483648 < window || slots == 0 {
