@@ -9,8 +9,8 @@
    - `out` overlaps no input. `*len` and `*next` are aligned, are not NULL, and lie in neither `out` nor an input. Inputs may overlap one another.
    - While a call runs nobody else writes what it is lent, nor reads `out`, `*len` or `*next`.
 
-   The functions keep no state, allocate nothing, call nothing and always return. So threads may call them at the same time. Numbers that are not the
-   length of a pointer (kinds, sizes, limits, widths) may be any.
+   The functions keep no state, allocate nothing, do no input or output and always return. So threads may call them at the same time. Numbers that are
+   not the length of a pointer (kinds, sizes, limits, widths) may be any.
 
    No function writes outside `out[0 .. out_len)` and the one number that it is lent. */
 #ifndef LARIZEMBA_H
@@ -39,7 +39,8 @@ typedef char larizemba_needs_64_bits[sizeof(size_t) == 8 ? 1 : -1];
 #define LARIZEMBA_WRAP 10  /* the width is 0 */
 
 /* Whether a policy has a larger capacity than `size` in a window of `window` bytes. If so *next is that capacity, else *next is 0: so it is where the
-   policy names none, where the one named is above `window` or not above `size`, and where the kind is unknown. */
+   policy names none, where the one named is above `window` or not above `size`, and where the kind is unknown. A window that the setup test refuses as
+   too long is none of these. */
 bool larizemba_grow_to(uint64_t kind, size_t n, size_t limit, size_t size, size_t window, size_t *next);
 
 /* LARIZEMBA_DONE where a reader of this capacity and policy can be set up over a window of `window` bytes and a table of `slots` line ends.
