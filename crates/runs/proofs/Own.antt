@@ -1,0 +1,104 @@
+-- The record that one pass is in, in closed form: it has the bytes up to the first `\n` before a `>`, or to the end (`own`), and behind the ends so
+-- far those of their lines. So refusals 4 and 3 of its mark are judged as specs/Standing.antt words them (`judgedAt`). Assumes nothing.
+use Prim.Native.Nat.{ℕ, zero, suc, _+_, _-_, _≤_, _<_, max}
+use native.Mathlib.Decide.{decLe}
+use native.Mathlib.Omega.{arith}
+use mathlib.Core.Bool.{Bool, true, false, cond, _&&_, _||_}
+use mathlib.Core.List.{List, [], _∷_, _++_, append-assoc}
+use mathlib.Core.Option.{Option, none, some}
+use mathlib.Core.Path.{_≡_, refl, sym, ap, _∙_}
+use lib.ListN.{length, getD, take, drop, length-append}
+use lib.Seq.{getD-append-add}
+use lib.Dec.{eqb, ltb, leb}
+use borrow.Author.Tests.{ltb-true, leb-false, le-ltb}
+use Rattle.meaning.specs.Line.{lines, onFirst}
+use Rattle.meaning.specs.Due.{newlines}
+use Rattle.meaning.specs.OnePass.{Mark, marks, tableMark, judgedMark}
+use Rattle.meaning.proofs.Lines.{lines-nil, lines-lf, lines-on}
+use Rattle.meaning.proofs.Ends.{closing, endsAt, ends-above, newlines-ends}
+use Rattle.runs.specs.Standing.{own}
+use Rattle.runs.proofs.SearchMarks.{pass-other, pass-held, pass-mark, pass-line}
+
+-- the clauses of `own` over two bytes
+own-on : (x y : ℕ) (r : List ℕ) → (eqb x 10 && eqb y 62) ≡ false → own (x ∷ y ∷ r) ≡ x ∷ own (y ∷ r)
+unfolding own
+own-on x y r t = rw (t, own)
+
+own-stop : (x y : ℕ) (r : List ℕ) → (eqb x 10 && eqb y 62) ≡ true → own (x ∷ y ∷ r) ≡ x ∷ []
+unfolding own
+own-stop x y r t = rw (t, own)
+
+-- where a byte follows, no line has to be begun to be ended
+ends-own : (i y : ℕ) (r : List ℕ) → endsAt i (own (y ∷ r)) true ≡ endsAt i (own (y ∷ r)) false
+unfolding endsAt own
+ends-own i y [] = refl
+ends-own i y (z ∷ r) = go (eqb y 10 && eqb z 62)
+  where
+    go : (t : Bool) → endsAt i (cond t (y ∷ []) (y ∷ own (z ∷ r))) true ≡ endsAt i (cond t (y ∷ []) (y ∷ own (z ∷ r))) false
+    go true = refl
+    go false = refl
+
+-- the mark of the record that a pass is in
+abbrev pub ownMark : (l b p : ℕ) (E xs : List ℕ) → Mark
+ownMark l b p E xs = record { line = l; byte = b; len = p + length (own xs) - b; ends = E ++ endsAt p (own xs) false }
+
+pub record Owns (l b p : ℕ) (E xs : List ℕ) : Type 0 where
+  pub behind : List Mark
+  pub are : marks l b p E xs false ≡ ownMark l b p E xs ∷ behind
+
+-- one byte that is passed, with the end that is recorded there or none
+owns-past :
+    (l b p x y : ℕ) (E F r : List ℕ) →
+    own (x ∷ y ∷ r) ≡ x ∷ own (y ∷ r) →
+    E ++ endsAt p (x ∷ own (y ∷ r)) false ≡ F ++ endsAt (suc p) (own (y ∷ r)) false →
+    marks l b p E (x ∷ y ∷ r) false ≡ marks l b (suc p) F (y ∷ r) false →
+    Owns l b (suc p) F (y ∷ r) →
+    Owns l b p E (x ∷ y ∷ r)
+owns-past l b p x y E F r same ends pass o =
+    let size : suc p + length (own (y ∷ r)) ≡ p + length (own (x ∷ y ∷ r)) = omega (arith, ap length same) in
+    record {
+      behind = o .behind;
+      are =
+          pass
+          ∙ o .are
+          ∙ (λ i.
+          record { line = l; byte = b; len = size i - b; ends = (sym ends ∙ ap (λ (ys : List ℕ). E ++ endsAt p ys false) (sym same)) i } ∷ o .behind);
+    }
+
+-- no byte, and the last byte
+owns-none : (l b p : ℕ) (E : List ℕ) → Owns l b p E []
+unfolding own endsAt marks
+owns-none l b p E = let z : p + 0 ≡ p = omega arith in record { behind = []; are = rw z }
+
+owns-one : (l b p x : ℕ) (E : List ℕ) → Owns l b p E (x ∷ [])
+unfolding own endsAt marks
+owns-one l b p x E = let z : p + 1 ≡ suc p = omega arith in record { behind = []; are = rw z (go (eqb x 10)) }
+  where
+    go : (t : Bool) → marks l b (suc p) E [] t ≡ record { line = l; byte = b; len = suc p - b; ends = E ++ closing t p (endsAt (suc p) [] t) } ∷ []
+    go true = refl
+    go false = refl
+
+-- a `\n` before a `>`
+owns-stop : (l b p x y : ℕ) (E r : List ℕ) → eqb x 10 ≡ true → eqb y 62 ≡ true → Owns l b p E (x ∷ y ∷ r)
+unfolding endsAt
+owns-stop l b p x y E r t u =
+    let z : p + 1 ≡ suc p = omega arith in
+    record {
+      behind = marks (l + suc (length E)) (suc p) (suc (suc p)) [] r false;
+      are = rw (own-stop x y r (rw (t, u)), t, z) (pass-mark l b p E x y r t u);
+    }
+
+pub owns : (xs : List ℕ) (l b p : ℕ) (E : List ℕ) → Owns l b p E xs
+unfolding endsAt
+owns [] l b p E = owns-none l b p E
+owns (x ∷ []) l b p E = owns-one l b p x E
+owns (x ∷ y ∷ r) l b p E = go (eqb x 10) refl (eqb y 62) refl (λ F. owns (y ∷ r) l b (suc p) F)
+  where
+    go : (t : Bool) → eqb x 10 ≡ t → (u : Bool) → eqb y 62 ≡ u → ((F : List ℕ) → Owns l b (suc p) F (y ∷ r)) → Owns l b p E (x ∷ y ∷ r)
+    go true t true u on = owns-stop l b p x y E r t u
+    go true t false u on =
+        let F = E ++ (p ∷ []) in
+        owns-past l b p x y E F r (own-on x y r (rw (t, u)))
+        (rw (t, endsAt) (ap (λ (es : List ℕ). E ++ p ∷ es) (ends-own (suc p) y r) ∙ sym (append-assoc E (p ∷ []) (endsAt (suc p) (own (y ∷ r)) false))))
+        (pass-line l b p E x y r t u) (on F)
+    go false t u f on = owns-past l b p x y E E r (own-on x y r (rw t)) (rw (t, endsAt)) (pass-other l b p E x (y ∷ r) t) (on E)
