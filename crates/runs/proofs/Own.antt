@@ -10,7 +10,8 @@ use mathlib.Core.Path.{_≡_, refl, sym, ap, _∙_}
 use lib.ListN.{length, getD, take, drop, length-append}
 use lib.Seq.{getD-append-add}
 use lib.Dec.{eqb, ltb, leb}
-use borrow.Author.Tests.{ltb-true, leb-false, le-ltb}
+use borrow.Author.Tests.{ltb-true, leb-false, lt-ltb}
+use Rattle.window.proofs.Laws.{same-test}
 use Rattle.meaning.specs.Line.{lines, onFirst}
 use Rattle.meaning.specs.Due.{newlines}
 use Rattle.meaning.specs.OnePass.{Mark, marks, tableMark, judgedMark}
@@ -102,3 +103,90 @@ owns (x ∷ y ∷ r) l b p E = go (eqb x 10) refl (eqb y 62) refl (λ F. owns (y
         (rw (t, endsAt) (ap (λ (es : List ℕ). E ++ p ∷ es) (ends-own (suc p) y r) ∙ sym (append-assoc E (p ∷ []) (endsAt (suc p) (own (y ∷ r)) false))))
         (pass-line l b p E x y r t u) (on F)
     go false t u f on = owns-past l b p x y E E r (own-on x y r (rw t)) (rw (t, endsAt)) (pass-other l b p E x (y ∷ r) t) (on E)
+
+-- as many ends as lines; behind ends so far at least one
+abbrev counted : (fresh : Bool) (n : ℕ) → ℕ
+counted true n = n
+counted false n = max 1 n
+
+length-first : (x : ℕ) (ls : List (List ℕ)) → length (onFirst x ls) ≡ max 1 (length ls)
+length-first x [] = refl
+length-first x (l ∷ ls) = omega arith
+
+ends-lines : (ys : List ℕ) (fresh : Bool) (i : ℕ) → length (endsAt i ys fresh) ≡ counted fresh (length (lines ys))
+unfolding endsAt
+ends-lines [] true i = rw lines-nil
+ends-lines [] false i = rw lines-nil
+ends-lines (x ∷ ys) fresh i = go (eqb x 10) refl fresh (ends-lines ys true (suc i)) (ends-lines ys false (suc i))
+  where
+    go :
+        (t : Bool) → eqb x 10 ≡ t → (fresh : Bool) →
+        length (endsAt (suc i) ys true) ≡ length (lines ys) →
+        length (endsAt (suc i) ys false) ≡ max 1 (length (lines ys)) →
+        length (endsAt i (x ∷ ys) fresh) ≡ counted fresh (length (lines (x ∷ ys)))
+    go true t true next on = rw (t, endsAt, lines-lf x ys t) (ap suc next)
+    go true t false next on = rw (t, endsAt, lines-lf x ys t) (omega arith)
+    go false t true next on = rw (t, endsAt, lines-on x ys t) (on ∙ sym (length-first x (lines ys)))
+    go false t false next on = rw (t, endsAt, lines-on x ys t) (omega (arith, length-first x (lines ys)))
+
+-- two orders that say the same
+same-order : (a b c d : ℕ) → (a < b → c < d) → (c < d → a < b) → ltb a b ≡ ltb c d
+same-order a b c d f g =
+    same-test (ltb a b) (ltb c d) (λ t. lt-ltb c d (f (ltb-true a b t))) (λ t. lt-ltb a b (g (ltb-true c d t)))
+
+-- A record in a window from `base` on, which starts at `start` and is searched from `from` on, with the ends E so far, no more than the slots.
+module _ (C T l base start from : ℕ) (E xs : List ℕ) (few : length E ≤ T) (behind : start ≤ from) where
+  abbrev b : ℕ
+  b = base + start
+
+  abbrev p : ℕ
+  p = base + from
+
+  abbrev fresh : List ℕ
+  fresh = endsAt p (own xs) false
+
+  own-count : length (E ++ fresh) ≡ length E + max 1 (length (lines (own xs)))
+  own-count = length-append E fresh ∙ ap (λ (n : ℕ). length E + n) (ends-lines (own xs) false p)
+
+  pub own-len : p + length (own xs) - b ≡ from + length (own xs) - start
+  own-len = omega arith
+
+  -- where the record does not fit the window, the end that finds no slot stands among the first C - 1 bytes exactly where they are crowded
+  own-crowded :
+      T < length (E ++ fresh) → C ≤ from + length (own xs) - start →
+      ltb (suc (getD (E ++ fresh) T 0)) (b + C) ≡ ltb T (length E + newlines (take (start + C - 1 - from) (own xs)))
+  own-crowded more long =
+      let k = T - length E in
+      let n = start + C - 1 - from in
+      let nl = newlines (take n (own xs)) in
+      let e = getD fresh k 0 in
+      let sum : length E + k ≡ T = omega arith in
+      let inside : k < length fresh = omega (arith, length-append E fresh) in
+      let this : getD (E ++ fresh) T 0 ≡ e = ap (λ (j : ℕ). getD (E ++ fresh) j 0) (sym sum) ∙ getD-append-add E fresh k 0 in
+      let above : p ≤ e = ends-above (own xs) false p k inside in
+      let near : ltb k nl ≡ ltb e (p + n) = newlines-ends (own xs) false p n k (omega arith) inside in
+      ap (λ (j : ℕ). ltb (suc j) (b + C)) this
+      ∙ same-order (suc e) (b + C) e (p + n) (λ h. omega arith) (λ h. omega arith)
+      ∙ sym near
+      ∙ same-order k nl T (length E + nl) (λ h. omega arith) (λ h. omega arith)
+
+  abbrev pub tests : Bool
+  tests =
+      ltb T (length E + max 1 (length (lines (own xs))))
+      && (leb (from + length (own xs) - start + 1) C || ltb T (length E + newlines (take (start + C - 1 - from) (own xs))))
+
+  pub own-table : tableMark C T (ownMark l b p E xs) ≡ tests
+  unfolding tableMark
+  own-table =
+      rw (own-len)
+      (go (ltb T (length (E ++ fresh))) refl (leb (from + length (own xs) - start + 1) C) refl
+      ∙ ap (λ (n : ℕ). ltb T n && (leb (from + length (own xs) - start + 1) C || ltb T (length E + newlines (take (start + C - 1 - from) (own xs))))) own-count)
+    where
+      go :
+          (t : Bool) → ltb T (length (E ++ fresh)) ≡ t → (u : Bool) → leb (from + length (own xs) - start + 1) C ≡ u →
+          (t && (u || ltb (suc (getD (E ++ fresh) T 0)) (b + C))) ≡ (t && (u || ltb T (length E + newlines (take (start + C - 1 - from) (own xs)))))
+      go false t u f = refl
+      go true t true f = refl
+      go true t false f =
+          let long : C < from + length (own xs) - start + 1 = leb-false (from + length (own xs) - start + 1) C f in
+          own-crowded (ltb-true T (length (E ++ fresh)) t) (omega arith)
