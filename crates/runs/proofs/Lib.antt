@@ -15,3 +15,4 @@ pub mod Given
 pub mod Reached
 pub mod Demand
 pub mod Own
+pub mod Standing

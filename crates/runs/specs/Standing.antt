@@ -46,7 +46,6 @@ firstOf (meant.refuses n vs ∷ d) = refuses n vs
 
 -- what is due to a reader by its phase
 abbrev pub standingIn : Phase → (C : ℕ) → Reader → (F : List ℕ) → Said
-unfolding due meaningFrom judgedAt
 standingIn phase.Lead C r F = firstOf (due C (r .slots) (meaningFrom (r .mark .line) (byteOf r) (drop (r .mark .start .0) F)))
 standingIn phase.Sought C r F =
     let start = r .mark .start .0 in
