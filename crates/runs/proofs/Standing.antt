@@ -1,31 +1,39 @@
 -- Any other state that passes 11: the first answer that is no ask is judged from the ends, the search place and the filled bytes as they stand, and
 -- the later refills (`standing`). What is due does not change by asks and reports, so it is what was due at first, and that is read off the bytes.
 -- Assumes nothing.
-use Prim.Native.Nat.{ℕ, zero, suc, _+_, _-_, _≤_, _<_, max}
+use Prim.Native.Nat.{ℕ, suc, _+_, _-_, _≤_, _<_}
 use native.Mathlib.Omega.{arith}
-use mathlib.Core.Bool.{Bool, true, false, cond, _&&_, _||_}
+use mathlib.Core.Bool.{Bool, true, false, cond, _&&_, false≢true}
 use mathlib.Core.List.{List, [], _∷_, _++_, map}
+use mathlib.Core.Option.{none}
 use mathlib.Core.Path.{_≡_, refl, sym, ap, subst, _∙_}
 use lib.ListN.{length, take, drop}
-use lib.Seq.{drop-drop}
+use lib.Seq.{drop-drop, length-take-le}
 use lib.Dec.{eqb, ltb, leb, eqb·suc-zero}
-use Rattle.meaning.specs.Line.{lines}
+use borrow.Author.Tests.{eqb-true, ltb-true, leb-true}
+use Rattle.growth.specs.Chain.{largest}
 use Rattle.meaning.specs.Input.{Meaning, begins, meaningFrom}
 use Rattle.meaning.specs.Due as meant
-use Rattle.meaning.specs.Due.{newlines, due}
-use Rattle.meaning.specs.OnePass.{Mark, marks, Marked, leadMarks, tableMark, judgedMark, placeMark, dueMarks}
-use Rattle.meaning.proofs.OnePass.{seen, at-cons, lead-meaning, lead-is}
+use Rattle.meaning.specs.Due.{due}
+use Rattle.meaning.specs.OnePass.{Mark, marks, leadMarks, tableMark, judgedMark, placeMark, dueMarks}
+use Rattle.meaning.proofs.OnePass.{at-cons, lead-meaning, lead-is}
 use Rattle.meaning.proofs.Marks.{lead-right}
 use Rattle.meaning.proofs.Due.{saidOf, due-gives, due-refuses, due-marks}
+use Rattle.scan.proofs.SearchLaws.{Rises, rises-lower, rises-count}
 use Rattle.reader.specs.declared.state.Reader.{Reader}
 use Rattle.reader.specs.declared.state.Phase.{Phase}
 use Rattle.reader.specs.declared.state.Phase.the-variants as phase
-use Rattle.reader.specs.State.{Sane, byteOf}
+use Rattle.reader.specs.State.{Sane, Good, byteOf, lentAs, rising}
 use Rattle.reader.specs.Read.{Said, asks, gives, ends, refuses}
-use Rattle.reader.proofs.Kept.{goesOn}
-use Rattle.runs.specs.Standing.{own, judgedAt, firstOf, standingIn}
-use Rattle.runs.proofs.Tells.{Dues, judge, unlessOver, fromHere, atSought, endsOf, dueIn, dueTo}
+use Rattle.reader.specs.Calls.{Left, reportOf}
+use Rattle.reader.proofs.Sanity.{and-true, true-sane}
+use Rattle.reader.proofs.Kept.{isSearching, Behind, goesOn}
+use Rattle.runs.specs.Run.{State, state, reading, afterRead, Brings, Event, read, Run, begun, by-read, by-report, by-seek, by-refused-report, by-refused-seek}
+use Rattle.runs.specs.Standing.{own, judgedAt, firstOf, standingIn, Plain, OnlyAsks, Asks, Standing}
+use Rattle.runs.proofs.Tells.{Dues, judge, unlessOver, fromHere, atSought, endsOf, dueIn, dueTo, isSought, Tells, Says, Answers, Goes}
 use Rattle.runs.proofs.SearchMarks.{ends-count}
+use Rattle.runs.proofs.Step.{steps, still-tells}
+use Rattle.runs.proofs.Calls.{taken, tells-report, due-report, report-refused, seek-refused}
 use Rattle.runs.proofs.Own.{ownMark, owns, own-len, tests, own-table}
 
 -- what a read says where an answer is due, and where answers are due
@@ -160,3 +168,164 @@ module _ (X : List ℕ) (C : ℕ) (r : Reader) (e : List ℕ) (s : Sane r) (lent
   first-due phase.Window = refl
   first-due phase.Table = refl
   first-due phase.Astray = refl
+
+-- ends that pass the test rise, below any higher place
+rising-rises : (lo : ℕ) (es : List ℕ) (hi top : ℕ) → lo < top → hi < top → rising lo es hi ≡ true → Rises (suc lo) es top
+unfolding rising Rises
+rising-rises lo [] hi top h k t = h
+rising-rises lo (x ∷ es) hi top h k t =
+    let both = and-true (ltb lo x && leb x hi) (rising x es hi) t in
+    let inside = and-true (ltb lo x) (leb x hi) (both .0) in
+    let above : lo < x = ltb-true lo x (inside .0) in
+    let below : x ≤ hi = leb-true x hi (inside .1) in
+    (above, rising-rises x es hi top (omega arith) k (both .1))
+
+-- the relation holds where the state passes 11 and is not one of the exceptions
+module _ (X : List ℕ) (start : State) (good : Good (start .reader) (start .window) (start .table)) (plain : Plain (start .reader) (start .table)) where
+  abbrev r : Reader
+  r = start .reader
+
+  abbrev e : List ℕ
+  e = start .table
+
+  abbrev C : ℕ
+  C = largest (r .fill .policy) (r .fill .lent) (r .fill .capacity)
+
+  start-behind : r .phase ≡ phase.Searching → Behind true (r .mark) e
+  start-behind is =
+      let from = r .mark .start .0 in
+      let rises : Rises (suc from) (take (r .mark .count) e) (goesOn (r .mark)) =
+      rising-rises from (take (r .mark .count) e) (goesOn (r .mark) - 1) (goesOn (r .mark)) (omega arith) (omega arith) (plain .ends-below is) in
+      let n : length (take (r .mark .count) e) ≡ r .mark .count =
+      length-take-le (r .mark .count) e (omega (arith, good .is-sane .count-slots, good .table-lent)) in
+      record {
+        count-behind = omega (arith, rises-count (suc from) (take (r .mark .count) e) (goesOn (r .mark)) rises);
+        ends-behind = λ own. rises-lower (from + 1) (suc from) (take (r .mark .count) e) (goesOn (r .mark)) (omega arith) rises;
+      }
+
+  start-tells :
+      drop (r .fill .base .0) X ≡ take (r .fill .filled) (start .window) ++ drop (r .fill .base .0 + r .fill .filled) X →
+      (r .fill .told ≡ true → drop (r .fill .base .0 + r .fill .filled) X ≡ []) →
+      Tells X C r (start .window) e
+  start-tells text told =
+      record {
+        is-good = good;
+        is-behind = λ is. start-behind (searching-is (r .phase) is);
+        sought-inside = λ is. plain .sought-inside (sought-is (r .phase) is);
+        text = text;
+        told = λ is. record { is-all = told is; has-room = plain .told-room is; is-quiet = plain .told-quiet is };
+        largest-is = refl;
+      }
+    where
+      searching-is : (p : Phase) → isSearching p ≡ true → p ≡ phase.Searching
+      searching-is phase.Lead t = absurd (false≢true t)
+      searching-is phase.Sought t = absurd (false≢true t)
+      searching-is phase.Searching t = refl
+      searching-is phase.Current t = absurd (false≢true t)
+      searching-is phase.Ended t = absurd (false≢true t)
+      searching-is phase.Over t = absurd (false≢true t)
+      searching-is phase.Window t = absurd (false≢true t)
+      searching-is phase.Table t = absurd (false≢true t)
+      searching-is phase.Astray t = absurd (false≢true t)
+
+      sought-is : (p : Phase) → isSought p ≡ true → p ≡ phase.Sought
+      sought-is phase.Lead t = absurd (false≢true t)
+      sought-is phase.Sought t = refl
+      sought-is phase.Searching t = absurd (false≢true t)
+      sought-is phase.Current t = absurd (false≢true t)
+      sought-is phase.Ended t = absurd (false≢true t)
+      sought-is phase.Over t = absurd (false≢true t)
+      sought-is phase.Window t = absurd (false≢true t)
+      sought-is phase.Table t = absurd (false≢true t)
+      sought-is phase.Astray t = absurd (false≢true t)
+
+-- an ask, and nothing else but asks before it
+only-asks : (a : Said) (h : List Event) → OnlyAsks (read a ∷ h) → OnlyAsks h × ((p : ℕ) × ((m : ℕ) × ((o : ℕ) × (a ≡ asks p m o))))
+only-asks (asks p m o) h only = (only, (p, (m, (o, refl))))
+only-asks (gives l b) h only = absurd only
+only-asks ends h only = absurd only
+only-asks (refuses n vs) h only = absurd only
+
+module _ (X : List ℕ) (C : ℕ) (d : Dues) where
+  -- the relation holds, and d is due
+  record Waits (s : State) : Type 0 where
+    tells : Tells X C (s .reader) (s .window) (s .table)
+    due-is : dueTo X C (s .reader) (s .table) ≡ d
+
+  waits-ask : (s : State) (p m o : ℕ) → reading s .said ≡ asks p m o → Waits s → Waits (afterRead s)
+  waits-ask s p m o is k =
+      let r = s .reader in
+      let due′ = dueTo X C r (s .table) in
+      let step = steps X C r (s .window) (s .table) (k .tells) in
+      let goes : Goes (asks p m o) due′ X C (reading s .reader) (reading s .table) =
+      subst (λ (a : Said). Goes a due′ X C (reading s .reader) (reading s .table)) is (step .goes) in
+      record { tells = still-tells X C r (s .window) (s .table) (k .tells); due-is = goes .0 ∙ k .due-is }
+
+  waits-report :
+      (n : ℕ) (w : List ℕ) (s : State) → reportOf n (s .reader) .refusal ≡ none → Brings X n s w → Waits s →
+      Waits (state (reportOf n (s .reader) .reader) w (s .table))
+  waits-report n w s is b k =
+      let r = s .reader in
+      let took = taken X C r (s .window) (s .table) (k .tells) n is in
+      subst (λ (l : Left). Waits (state (l .reader) w (s .table))) (sym (took .reader-is))
+      (record {
+        tells = tells-report X C r (s .window) (s .table) (k .tells) n w took b;
+        due-is = due-report X C r (s .window) (s .table) (k .tells) n w took b ∙ k .due-is;
+      })
+
+  waits-same : (s : State) (q : Reader) → q ≡ s .reader → Waits s → Waits (state q (s .window) (s .table))
+  waits-same s q is k =
+      subst (λ (o : Reader). Waits (state o (s .window) (s .table))) (sym is) (record { tells = k .tells; due-is = k .due-is })
+
+  waits-on : (start : State) → Waits start → (h : List Event) (s : State) → Run X start h s → OnlyAsks h → Waits s
+  waits-on start k h s begun only = k
+  waits-on start k h s (by-read h₁ s₁ q) only =
+      let u = only-asks (reading s₁ .said) h₁ only in
+      waits-ask s₁ (u .1 .0) (u .1 .1 .0) (u .1 .1 .1 .0) (u .1 .1 .1 .1) (waits-on start k h₁ s₁ q (u .0))
+  waits-on start k h s (by-report n w h₁ s₁ q is b) only = waits-report n w s₁ is b (waits-on start k h₁ s₁ q only)
+  waits-on start k h s (by-seek line byte h₁ s₁ q is) only = absurd only
+  waits-on start k h s (by-refused-report n number h₁ s₁ q is) only =
+      let before = waits-on start k h₁ s₁ q only in
+      waits-same s₁ _ (report-refused X C (s₁ .reader) (s₁ .window) (s₁ .table) (before .tells) n number is) before
+  waits-on start k h s (by-refused-seek line byte number h₁ s₁ q is) only =
+      let before = waits-on start k h₁ s₁ q only in
+      waits-same s₁ _ (seek-refused X C (s₁ .reader) (s₁ .window) (s₁ .table) (before .tells) line byte number is) before
+
+-- a read says the first of what is due
+says-for : (s : Said) (a : meant.Said Mark) (r : Reader) (e : List ℕ) → Says s a r e → s ≡ saidFor a
+says-for (asks p m o) a r e says = absurd says
+says-for (gives l b) (meant.gives m) r e says = λ i. gives (says .0 i) (says .1 .0 i)
+says-for (gives l b) meant.ends r e says = absurd says
+says-for (gives l b) (meant.refuses n vs) r e says = absurd says
+says-for ends (meant.gives m) r e says = absurd says
+says-for ends meant.ends r e says = refl
+says-for ends (meant.refuses n vs) r e says = absurd says
+says-for (refuses n vs) (meant.gives m) r e says = absurd says
+says-for (refuses n vs) meant.ends r e says = absurd says
+says-for (refuses n vs) (meant.refuses k us) r e says = λ i. refuses (says .0 i) (says .1 i)
+
+answers-first : (a : Said) (d : Dues) (X : List ℕ) (C : ℕ) (r : Reader) (e : List ℕ) → Answers a d X C r e → a ≡ firstSaid d
+answers-first a d X C r e q = says-for a (q .first) r e (q .says) ∙ sym (ap firstSaid (q .due-is))
+
+goes-first : (a : Said) (d : Dues) (X : List ℕ) (C : ℕ) (r : Reader) (e : List ℕ) → Goes a d X C r e → Asks a (firstSaid d)
+goes-first (asks p m o) d X C r e q = tt
+goes-first (gives l b) d X C r e q = answers-first (gives l b) d X C r e q
+goes-first ends d X C r e q = answers-first ends d X C r e q
+goes-first (refuses n vs) d X C r e q = answers-first (refuses n vs) d X C r e q
+
+pub standing : Standing
+unfolding lentAs
+standing X start sane′ lent plain text told h s run only =
+    let r = start .reader in
+    let lengths = and-true (eqb (r .fill .lent) (length (start .window))) (eqb (r .slots) (length (start .table))) lent in
+    let good : Good r (start .window) (start .table) =
+    record {
+      is-sane = true-sane r sane′;
+      window-lent = eqb-true (r .fill .lent) (length (start .window)) (lengths .0);
+      table-lent = eqb-true (r .slots) (length (start .table)) (lengths .1);
+    } in
+    let c = C X start good plain in
+    let k = waits-on X c (dueTo X c r (start .table)) start (record { tells = start-tells X start good plain text told; due-is = refl }) h s run only in
+    subst (Asks (reading s .said)) (ap firstSaid (k .due-is) ∙ first-due X c r (start .table) (good .is-sane) (good .table-lent) (r .phase))
+    (goes-first (reading s .said) (dueTo X c (s .reader) (s .table)) X c (reading s .reader) (reading s .table)
+    (steps X c (s .reader) (s .window) (s .table) (k .tells) .goes))
