@@ -16,3 +16,4 @@ pub mod Reached
 pub mod Demand
 pub mod Own
 pub mod Standing
+pub mod Exceptions
