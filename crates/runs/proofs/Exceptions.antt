@@ -1,6 +1,6 @@
 -- States that pass 11 and whose first answer is not judged as the bytes stand: why specs/Standing.antt asks `Plain` of a state, and that its input
 -- ends where the end was told. Each is a state, an input and a run. Assumes nothing.
-use Prim.Native.Nat.{ℕ, suc, _+_, _≤_}
+use Prim.Native.Nat.{ℕ, _+_}
 use native.Mathlib.Omega.{arith}
 use mathlib.Core.Bool.{Bool, true, false}
 use mathlib.Core.List.{List, [], _∷_, _++_}
@@ -17,23 +17,33 @@ use Rattle.reader.specs.declared.state.Phase.the-variants as phase
 use Rattle.reader.specs.State.{sane, lentAs, endsRise, markAt}
 use Rattle.reader.specs.Read.{Said, asks, gives, ends, refuses, readOf}
 use Rattle.reader.specs.Calls.{reportOf}
-use Rattle.runs.specs.Run.{State, state, reading, afterRead, Event, Run, begun, by-read, by-report}
+use Rattle.runs.specs.Run.{State, state, reading, Event, Run, begun, by-read, by-report}
 use Rattle.runs.specs.Standing.{judgedAt, standingIn, OnlyAsks}
+
+-- what is due in a state, as it stands
+abbrev pub standsIn : (X : List ℕ) → State → Said
+standsIn X s =
+    let r = s .reader in
+    standingIn (r .phase) (largest (r .fill .policy) (r .fill .lent) (r .fill .capacity)) r (drop (r .fill .base .0) X)
+
+-- the window holds the bytes of X, as far as it is filled
+abbrev pub Text : (X : List ℕ) → State → Type 0
+Text X s =
+    let f = s .reader .fill in
+    drop (f .base .0) X ≡ take (f .filled) (s .window) ++ drop (f .base .0 + f .filled) X
 
 -- a state that passes 11, ends included, and a run over X in which nothing but asks was heard, up to an answer that is not what stands
 pub record Misses (X : List ℕ) (start : State) (heard stands : Said) : Type 0 where
   pub passes : sane (start .reader) ≡ true
   pub lengths : lentAs (start .reader) (length (start .window)) (length (start .table)) ≡ true
   pub rising : endsRise (start .reader) (start .table) ≡ true
-  pub text : drop (start .reader .fill .base .0) X ≡ take (start .reader .fill .filled) (start .window) ++ drop (start .reader .fill .base .0 + start .reader .fill .filled) X
+  pub text : Text X start
   pub events : List Event
   pub last : State
   pub run : Run X start events last
   pub only-asks : OnlyAsks events
   pub says : reading last .said ≡ heard
-  pub judged :
-      standingIn (start .reader .phase) (largest (start .reader .fill .policy) (start .reader .fill .lent) (start .reader .fill .capacity)) (start .reader) (drop (start .reader .fill .base .0) X)
-      ≡ stands
+  pub judged : standsIn X start ≡ stands
   pub differ : heard ≡ stands → ⊥
 
 -- tells answers apart

@@ -1,24 +1,22 @@
 -- The record that one pass is in, in closed form: it has the bytes up to the first `\n` before a `>`, or to the end (`own`), and behind the ends so
 -- far those of their lines. So refusals 4 and 3 of its mark are judged as specs/Standing.antt words them (`judgedAt`). Assumes nothing.
-use Prim.Native.Nat.{ℕ, zero, suc, _+_, _-_, _≤_, _<_, max}
-use native.Mathlib.Decide.{decLe}
+use Prim.Native.Nat.{ℕ, suc, _+_, _-_, _≤_, _<_, max}
 use native.Mathlib.Omega.{arith}
 use mathlib.Core.Bool.{Bool, true, false, cond, _&&_, _||_}
 use mathlib.Core.List.{List, [], _∷_, _++_, append-assoc}
-use mathlib.Core.Option.{Option, none, some}
 use mathlib.Core.Path.{_≡_, refl, sym, ap, _∙_}
-use lib.ListN.{length, getD, take, drop, length-append}
+use lib.ListN.{length, getD, take, length-append}
 use lib.Seq.{getD-append-add}
 use lib.Dec.{eqb, ltb, leb}
 use borrow.Author.Tests.{ltb-true, leb-false, lt-ltb}
 use Rattle.window.proofs.Laws.{same-test}
 use Rattle.meaning.specs.Line.{lines, onFirst}
 use Rattle.meaning.specs.Due.{newlines}
-use Rattle.meaning.specs.OnePass.{Mark, marks, tableMark, judgedMark}
+use Rattle.meaning.specs.OnePass.{Mark, marks, tableMark}
 use Rattle.meaning.proofs.Lines.{lines-nil, lines-lf, lines-on}
 use Rattle.meaning.proofs.Ends.{closing, endsAt, ends-above, newlines-ends}
 use Rattle.runs.specs.Standing.{own}
-use Rattle.runs.proofs.SearchMarks.{pass-other, pass-held, pass-mark, pass-line}
+use Rattle.runs.proofs.SearchMarks.{pass-other, pass-mark, pass-line}
 
 -- the clauses of `own` over two bytes
 own-on : (x y : ℕ) (r : List ℕ) → (eqb x 10 && eqb y 62) ≡ false → own (x ∷ y ∷ r) ≡ x ∷ own (y ∷ r)
@@ -134,6 +132,16 @@ same-order : (a b c d : ℕ) → (a < b → c < d) → (c < d → a < b) → ltb
 same-order a b c d f g =
     same-test (ltb a b) (ltb c d) (λ t. lt-ltb c d (f (ltb-true a b t))) (λ t. lt-ltb a b (g (ltb-true c d t)))
 
+-- the length of a record in a window from `base` on
+pub own-len : (base start from : ℕ) (xs : List ℕ) → base + from + length (own xs) - (base + start) ≡ from + length (own xs) - start
+own-len base start from xs = omega arith
+
+-- refusal 4 in the words of `judgedAt`: more lines than slots, and a record that fits the window, or more `\n` than slots among its first C - 1 bytes
+abbrev pub tableAt : (C T start from : ℕ) (E xs : List ℕ) → Bool
+tableAt C T start from E xs =
+    ltb T (length E + max 1 (length (lines (own xs))))
+    && (leb (from + length (own xs) - start + 1) C || ltb T (length E + newlines (take (start + C - 1 - from) (own xs))))
+
 -- A record in a window from `base` on, which starts at `start` and is searched from `from` on, with the ends E so far, no more than the slots.
 module _ (C T l base start from : ℕ) (E xs : List ℕ) (few : length E ≤ T) (behind : start ≤ from) where
   abbrev b : ℕ
@@ -147,9 +155,6 @@ module _ (C T l base start from : ℕ) (E xs : List ℕ) (few : length E ≤ T) 
 
   own-count : length (E ++ fresh) ≡ length E + max 1 (length (lines (own xs)))
   own-count = length-append E fresh ∙ ap (λ (n : ℕ). length E + n) (ends-lines (own xs) false p)
-
-  pub own-len : p + length (own xs) - b ≡ from + length (own xs) - start
-  own-len = omega arith
 
   -- where the record does not fit the window, the end that finds no slot stands among the first C - 1 bytes exactly where they are crowded
   own-crowded :
@@ -170,15 +175,10 @@ module _ (C T l base start from : ℕ) (E xs : List ℕ) (few : length E ≤ T) 
       ∙ sym near
       ∙ same-order k nl T (length E + nl) (λ h. omega arith) (λ h. omega arith)
 
-  abbrev pub tests : Bool
-  tests =
-      ltb T (length E + max 1 (length (lines (own xs))))
-      && (leb (from + length (own xs) - start + 1) C || ltb T (length E + newlines (take (start + C - 1 - from) (own xs))))
-
-  pub own-table : tableMark C T (ownMark l b p E xs) ≡ tests
+  pub own-table : tableMark C T (ownMark l b p E xs) ≡ tableAt C T start from E xs
   unfolding tableMark
   own-table =
-      rw (own-len)
+      rw (own-len base start from xs)
       (go (ltb T (length (E ++ fresh))) refl (leb (from + length (own xs) - start + 1) C) refl
       ∙ ap (λ (n : ℕ). ltb T n && (leb (from + length (own xs) - start + 1) C || ltb T (length E + newlines (take (start + C - 1 - from) (own xs))))) own-count)
     where

@@ -123,7 +123,7 @@ module _ (l b p : ℕ) (E : List ℕ) (x : ℕ) where
   unfolding marks
   pass-other xs t = rw t
 
-  pub pass-held : (xs : List ℕ) → eqb x 10 ≡ true → marks l b p E (x ∷ xs) false ≡ marks l b (suc p) E xs true
+  pass-held : (xs : List ℕ) → eqb x 10 ≡ true → marks l b p E (x ∷ xs) false ≡ marks l b (suc p) E xs true
   unfolding marks
   pass-held xs t = rw t
 

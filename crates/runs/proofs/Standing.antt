@@ -34,7 +34,7 @@ use Rattle.runs.proofs.Tells.{Dues, judge, unlessOver, fromHere, atSoug
 use Rattle.runs.proofs.SearchMarks.{ends-count}
 use Rattle.runs.proofs.Step.{steps, still-tells}
 use Rattle.runs.proofs.Calls.{taken, tells-report, due-report, report-refused, seek-refused}
-use Rattle.runs.proofs.Own.{ownMark, owns, own-len, tests, own-table}
+use Rattle.runs.proofs.Own.{ownMark, owns, own-len, tableAt, own-table}
 
 -- what a read says where an answer is due, and where answers are due
 abbrev saidFor : meant.Said Mark → Said
@@ -76,12 +76,12 @@ module _ (X : List ℕ) (C T l base start from : ℕ) (E : List ℕ) (few : leng
 
   judged-some : (x : ℕ) (xs : List ℕ) → drop (base + start) X ≡ x ∷ xs
       → judgedAt C T l (base + start) start from (length E) F
-      ≡ judgedBy (tests C T l base start from E (drop from F) few behind) (ltb C (from + length (own (drop from F)) - start + 1)) l (base + start)
+      ≡ judgedBy (tableAt C T start from E (drop from F)) (ltb C (from + length (own (drop from F)) - start + 1)) l (base + start)
   unfolding judgedAt
   judged-some x xs some′ = rw (drop-drop start base X ∙ some′, eqb·suc-zero (length xs))
 
   first-marks : firstSaid (judge C T (marks l (base + start) (base + from) E (drop (base + from) X) false))
-      ≡ judgedBy (tests C T l base start from E (drop from F) few behind) (ltb C (from + length (own (drop from F)) - start + 1)) l (base + start)
+      ≡ judgedBy (tableAt C T start from E (drop from F)) (ltb C (from + length (own (drop from F)) - start + 1)) l (base + start)
   first-marks =
       let xs = drop from F in
       let o = owns xs l (base + start) (base + from) E in
@@ -89,7 +89,7 @@ module _ (X : List ℕ) (C T l base start from : ℕ) (E : List ℕ) (few : leng
       ∙ ap (λ (ms : List Mark). firstSaid (judge C T ms)) (o .are)
       ∙ first-judged C T (ownMark l (base + start) (base + from) E xs) (o .behind)
       ∙ (λ i.
-      judgedBy (own-table C T l base start from E xs few behind i) (ltb C (own-len C T l base start from E xs few behind i + 1)) l (base + start))
+      judgedBy (own-table C T l base start from E xs few behind i) (ltb C (own-len base start from xs i + 1)) l (base + start))
 
   first-here : firstSaid (fromHere X C T l (base + start) (base + from) E) ≡ judgedAt C T l (base + start) start from (length E) F
   first-here = go (drop (base + start) X) refl
@@ -120,25 +120,25 @@ module _ (X : List ℕ) (C : ℕ) (r : Reader) (e : List ℕ) (s : Sane r) (lent
       ∙ ap (λ (xs : List ℕ). firstOf (due C (r .slots) (meaningFrom l b xs))) (sym (drop-drop start base X))
 
   -- a place sought: a `>` stands there, or not
+  abbrev soughtHere : (mark : Bool) → Said
+  soughtHere mark = cond mark (judgedAt C (r .slots) (r .mark .line) (base + start) start (start + 1) 0 (drop base X)) (refuses 5 [])
+
   first-sought : firstSaid (dueIn phase.Sought X C r e) ≡ standingIn phase.Sought C r (drop base X)
-  first-sought =
-      go (drop (base + start) X) refl
-      ∙ ap (λ (xs : List ℕ). cond (begins xs) (judgedAt C (r .slots) (r .mark .line) (base + start) start (start + 1) 0 (drop base X)) (refuses 5 [])) (sym (drop-drop start base X))
+  first-sought = go (drop (base + start) X) refl ∙ ap (λ (xs : List ℕ). soughtHere (begins xs)) (sym (drop-drop start base X))
     where
       mark : (x : ℕ) (xs : List ℕ) → drop (base + start) X ≡ x ∷ xs → (t : Bool)
           → firstSaid (cond t (judge C (r .slots) (marks (r .mark .line) (base + start) (suc (base + start)) [] xs false)) (meant.refuses 5 [] ∷ []))
-          ≡ cond t (judgedAt C (r .slots) (r .mark .line) (base + start) start (start + 1) 0 (drop base X)) (refuses 5 [])
+          ≡ soughtHere t
       mark x xs is true =
           let next : suc (base + start) ≡ base + (start + 1) = omega arith in
-          (λ i.
-          firstSaid (judge C (r .slots) (marks (r .mark .line) (base + start) (next i) [] ((sym (at-cons X (base + start) x xs is .next) ∙ ap (λ (k : ℕ). drop k X) next) i) false)))
+          let bytes : xs ≡ drop (base + (start + 1)) X = sym (at-cons X (base + start) x xs is .next) ∙ ap (λ (k : ℕ). drop k X) next in
+          (λ i. firstSaid (judge C (r .slots) (marks (r .mark .line) (base + start) (next i) [] (bytes i) false)))
           ∙ first-marks X C (r .slots) (r .mark .line) base start (start + 1) [] (omega arith) (omega arith)
           ∙ sym (judged-some X C (r .slots) (r .mark .line) base start (start + 1) [] (omega arith) (omega arith) x xs is)
       mark x xs is false = refl
 
       go : (ys : List ℕ) → drop (base + start) X ≡ ys
-          → firstSaid (atSought C (r .slots) (r .mark .line) (base + start) ys)
-          ≡ cond (begins ys) (judgedAt C (r .slots) (r .mark .line) (base + start) start (start + 1) 0 (drop base X)) (refuses 5 [])
+          → firstSaid (atSought C (r .slots) (r .mark .line) (base + start) ys) ≡ soughtHere (begins ys)
       go [] is = refl
       go (x ∷ xs) is = mark x xs is (eqb x 62)
 

@@ -1,7 +1,7 @@
 -- Any other state that passes 11 (01, below the refusals): rules 2 to 5 "are judged from the recorded ends, the search place and the filled bytes
 -- as they stand, and the later refills". F is the filled bytes and the later refills, from the front of the window on. Assumes nothing.
-use Prim.Native.Nat.{ℕ, suc, _+_, _-_, _<_, max}
-use mathlib.Core.Bool.{Bool, true, false, cond, _&&_, _||_}
+use Prim.Native.Nat.{ℕ, _+_, _-_, _<_, max}
+use mathlib.Core.Bool.{true, false, cond, _&&_, _||_}
 use mathlib.Core.List.{List, [], _∷_, _++_}
 use mathlib.Core.Path.{_≡_}
 use lib.ListN.{length, take, drop}
