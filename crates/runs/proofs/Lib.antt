@@ -19,3 +19,6 @@ pub mod Progress
 pub mod Served
 pub mod Position
 pub mod Resume
+pub mod Own
+pub mod Standing
+pub mod Exceptions

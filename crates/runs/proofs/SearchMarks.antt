@@ -119,7 +119,7 @@ first (x ∷ xs) true l b p q E h =
 
 -- the steps of one pass over a byte inside a line, and over a `\n` by the byte behind it
 module _ (l b p : ℕ) (E : List ℕ) (x : ℕ) where
-  pass-other : (xs : List ℕ) → eqb x 10 ≡ false → marks l b p E (x ∷ xs) false ≡ marks l b (suc p) E xs false
+  pub pass-other : (xs : List ℕ) → eqb x 10 ≡ false → marks l b p E (x ∷ xs) false ≡ marks l b (suc p) E xs false
   unfolding marks
   pass-other xs t = rw t
 
@@ -127,13 +127,13 @@ module _ (l b p : ℕ) (E : List ℕ) (x : ℕ) where
   unfolding marks
   pass-held xs t = rw t
 
-  pass-mark : (y : ℕ) (xs : List ℕ) → eqb x 10 ≡ true → eqb y 62 ≡ true
+  pub pass-mark : (y : ℕ) (xs : List ℕ) → eqb x 10 ≡ true → eqb y 62 ≡ true
       → marks l b p E (x ∷ y ∷ xs) false
       ≡ record { line = l; byte = b; len = suc p - b; ends = E ++ (p ∷ []) } ∷ marks (l + suc (length E)) (suc p) (suc (suc p)) [] xs false
   unfolding marks
   pass-mark y xs t u = pass-held (y ∷ xs) t ∙ rw (u, marks)
 
-  pass-line : (y : ℕ) (xs : List ℕ) → eqb x 10 ≡ true → eqb y 62 ≡ false
+  pub pass-line : (y : ℕ) (xs : List ℕ) → eqb x 10 ≡ true → eqb y 62 ≡ false
       → marks l b p E (x ∷ y ∷ xs) false ≡ marks l b (suc p) (E ++ (p ∷ [])) (y ∷ xs) false
   unfolding marks
   pass-line y xs t u = pass-held (y ∷ xs) t ∙ rw (u, marks)

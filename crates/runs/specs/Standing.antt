@@ -1,7 +1,7 @@
 -- Any other state that passes 11 (01, below the refusals): rules 2 to 5 "are judged from the recorded ends, the search place and the filled bytes
 -- as they stand, and the later refills". F is the filled bytes and the later refills, from the front of the window on. Assumes nothing.
-use Prim.Native.Nat.{ℕ, suc, _+_, _-_, _<_, max}
-use mathlib.Core.Bool.{Bool, true, false, cond, _&&_, _||_}
+use Prim.Native.Nat.{ℕ, _+_, _-_, _<_, max}
+use mathlib.Core.Bool.{true, false, cond, _&&_, _||_}
 use mathlib.Core.List.{List, [], _∷_, _++_}
 use mathlib.Core.Path.{_≡_}
 use lib.ListN.{length, take, drop}
@@ -46,7 +46,6 @@ firstOf (meant.refuses n vs ∷ d) = refuses n vs
 
 -- what is due to a reader by its phase
 abbrev pub standingIn : Phase → (C : ℕ) → Reader → (F : List ℕ) → Said
-unfolding due meaningFrom judgedAt
 standingIn phase.Lead C r F = firstOf (due C (r .slots) (meaningFrom (r .mark .line) (byteOf r) (drop (r .mark .start .0) F)))
 standingIn phase.Sought C r F =
     let start = r .mark .start .0 in
