@@ -3,11 +3,11 @@
 use Prim.Native.Nat.{ℕ, zero, suc, _+_, _-_, _≤_, _<_}
 use native.Mathlib.Decide.{decLe}
 use native.Mathlib.Omega.{arith}
-use mathlib.Core.Bool.{Bool, true, false, _&&_, false≢true}
-use mathlib.Core.List.{List, [], _∷_, _++_, append-assoc}
+use mathlib.Core.Bool.{Bool, true, false, false≢true}
+use mathlib.Core.List.{List, _++_, append-assoc}
 use mathlib.Core.Option.{Option, none, some, Option·none-ne-some}
 use mathlib.Core.Path.{_≡_, refl, sym, ap, subst, _∙_}
-use lib.ListN.{length, take, drop, take-append-drop}
+use lib.ListN.{take, drop, take-append-drop}
 use lib.Seq.{drop-drop, take-add}
 use lib.Dec.{leb, ltb}
 use borrow.Author.Tests.{leb-true, ltb-true}
@@ -20,10 +20,10 @@ use Rattle.reader.specs.declared.state.Phase.the-variants as phase
 use Rattle.reader.specs.State.{Good, Sane, sane, withFill}
 use Rattle.reader.specs.Calls.{Left, done, misplaced, reportOf, tookOver, seekOf, soughtIn, soughtOut}
 use Rattle.reader.proofs.Sanity.{and-true, sane-true}
-use Rattle.reader.proofs.CallLaws.{Placed, test-placed, report-sane, seek-misplaced, seek-in, seek-out}
+use Rattle.reader.proofs.CallLaws.{report-sane, seek-misplaced, seek-in, seek-out}
 use Rattle.reader.proofs.Made.{sane-report, sane-seek}
 use Rattle.runs.specs.Run.{state, Brings}
-use Rattle.runs.proofs.Tells.{atSought, dueIn, dueTo, Tells, Told, Rests}
+use Rattle.runs.proofs.Tells.{dueIn, dueTo, Tells, Rests}
 
 -- a report of no bytes tells the end
 abbrev pub filledBy : ℕ → Fill → Fill

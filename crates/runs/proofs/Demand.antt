@@ -4,14 +4,13 @@ use mathlib.Core.List.{List, [], _∷_, map}
 use mathlib.Core.Path.{_≡_, refl, sym, ap, subst, _∙_}
 use native.Mathlib.Omega.{arith}
 use lib.ListN.{length, getD}
-use Rattle.growth.specs.declared.Policy.{Policy}
 use Rattle.growth.specs.Chain.{largest}
 use Rattle.meaning.specs.Input.{Rec}
 use Rattle.meaning.specs.Due as meant
 use Rattle.meaning.specs.OnePass.{Mark}
 use Rattle.meaning.proofs.Due.{saidOf}
 use Rattle.reader.specs.Read.{Said, asks, gives, ends, refuses}
-use Rattle.runs.specs.Run.{State, Made, reading, afterRead, Event, Run}
+use Rattle.runs.specs.Run.{State, reading, afterRead, Event}
 use Rattle.runs.specs.Run as run
 use Rattle.runs.specs.Demand.{origin, answers, dueFrom, nth, Hears, Demand3}
 use Rattle.runs.proofs.Tells.{Dues, dueTo, Says, Goes, Answers, later}

@@ -1,7 +1,6 @@
 -- The answers due in the one-pass form are those of the input's meaning, and each record among them stands in the input: its ends are those
 -- of its lines, and a `>` is its first byte. Assumes nothing.
-use Prim.Native.Nat.{ℕ, zero, suc, _+_, _≤_}
-use native.Mathlib.Omega.{arith}
+use Prim.Native.Nat.{ℕ, zero, suc, _≤_}
 use mathlib.Core.Bool.{Bool, true, false, cond}
 use mathlib.Core.List.{List, [], _∷_, map}
 use mathlib.Core.Option.{Option, none, some}
@@ -9,11 +8,11 @@ use mathlib.Core.Path.{_≡_, refl, sym, ap, subst, _∙_}
 use lib.ListN.{getD, drop}
 use lib.Dec.{eqb}
 use borrow.Author.Tests.{eqb-true}
-use Rattle.meaning.specs.Input.{Rec, Meaning, records, recordsFrom, meaning, begins}
+use Rattle.meaning.specs.Input.{Rec, records, recordsFrom}
 use Rattle.meaning.specs.Due.{Said, gives, ends, refuses, due, dueBy}
-use Rattle.meaning.specs.OnePass.{Mark, marks, Marked, good, bad, leadMarks, judgedMark, placeMark, dueMarks}
-use Rattle.meaning.proofs.OnePass.{cutOut, seen, marks-records, whole-meaning, Lead, nothing, refusal, start, whole-lead}
-use Rattle.meaning.proofs.Marks.{All, AllOf, Right, marks-right, lead-right}
+use Rattle.meaning.specs.OnePass.{Mark, marks, Marked, good, leadMarks, judgedMark, placeMark, dueMarks}
+use Rattle.meaning.proofs.OnePass.{cutOut, marks-records, whole-meaning, Lead, nothing, refusal, start, whole-lead}
+use Rattle.meaning.proofs.Marks.{All, Right, marks-right, lead-right}
 use Rattle.meaning.proofs.Due.{saidOf, due-gives, due-refuses, due-marks}
 use Rattle.meaning.proofs.Places.{Stand, records-stand}
 use Rattle.runs.specs.Demand.{front, place, dueFrom}

@@ -1,9 +1,9 @@
 -- A record that is current, by its mark, stands in the window with the ends of its lines: so `position` is its place, and the views show it as
 -- the input's meaning has it. Assumes nothing.
-use Prim.Native.Nat.{ℕ, zero, suc, _+_, _-_, _≤_, _<_}
+use Prim.Native.Nat.{ℕ, suc, _+_, _-_, _≤_}
 use native.Mathlib.Omega.{arith}
 use mathlib.Core.Bool.{Bool, true, false}
-use mathlib.Core.List.{List, [], _∷_, _++_, map}
+use mathlib.Core.List.{List, [], _∷_, map}
 use mathlib.Core.Option.{Option, some}
 use mathlib.Core.Path.{_≡_, refl, sym, ap, subst, _∙_}
 use lib.ListN.{length, getD, take, drop, length-drop}
@@ -11,15 +11,15 @@ use lib.Seq.{length-take-le, drop-drop, drop-append-le, take-append-le, drop-con
 use lib.Dec.{eqb}
 use borrow.Author.Tests.{eqb-true, eqb-false}
 use Rattle.meaning.specs.Input.{Rec}
-use Rattle.meaning.specs.Parts.{size, headOf, seqLines, seqOf, idOf, descOf}
+use Rattle.meaning.specs.Parts.{headOf, seqLines, seqOf, idOf, descOf}
 use Rattle.meaning.specs.OnePass.{Mark}
 use Rattle.meaning.proofs.OnePass.{cutOut}
 use Rattle.meaning.proofs.Ends.{endsAt, closing}
 use Rattle.meaning.proofs.Marks.{right-size}
 use Rattle.reader.specs.declared.state.Reader.{Reader}
 use Rattle.reader.specs.declared.state.Phase.the-variants as phase
-use Rattle.reader.specs.State.{byteOf, isCurrent}
-use Rattle.reader.specs.Calls.{Held, held, at, placeOf, currentOf}
+use Rattle.reader.specs.State.{isCurrent}
+use Rattle.reader.specs.Calls.{Held, held, at, currentOf}
 use Rattle.reader.proofs.Sanity.{sane-true}
 use Rattle.reader.proofs.CallLaws.{place-shown, current-held}
 use Rattle.view.specs.View.{Shown, headIn, idIn, descIn, lineIn, lineCount}
@@ -31,7 +31,7 @@ use Rattle.view.specs.Current as current
 use Rattle.view.proofs.Meaning.{Stands, head-shows, id-shows, desc-shows, count-is, line-shows, full-shows, full-one-shows}
 use Rattle.runs.specs.Run.{state}
 use Rattle.runs.specs.Demand.{Gives}
-use Rattle.runs.proofs.Tells.{Tells, Holds, endsOf}
+use Rattle.runs.proofs.Tells.{Tells, Holds}
 use Rattle.runs.proofs.Fine.{Fine}
 use Rattle.runs.proofs.Within.{Within, shows-wider, head-within, id-in, desc-in, line-in′, picked-wider}
 

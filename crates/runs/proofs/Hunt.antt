@@ -12,9 +12,9 @@ use mathlib.Core.Logic.{inl, inr}
 use mathlib.Core.Option.{Option, none, some}
 use mathlib.Core.Path.{_≡_, refl, sym, ap, subst, _∙_}
 use lib.ListN.{length, getD, take, drop, set, length-drop, length-append}
-use lib.Seq.{drop-drop, drop-cons, drop-append-le, drop-at, take-at, take-add, length-take-le}
+use lib.Seq.{drop-cons}
 use lib.Dec.{eqb, ltb, leb}
-use borrow.Author.Tests.{lt-ltb, le-ltb, le-leb, lt-leb, ltb-true, eqb-true, ne-eqb}
+use borrow.Author.Tests.{lt-ltb, le-ltb, le-leb, lt-leb, ltb-true, ne-eqb}
 use Rattle.growth.specs.Chain.{largest}
 use Rattle.growth.proofs.Chain.{largest-stop, largest-step, largest-above}
 use Rattle.meaning.specs.Due as meant
@@ -26,7 +26,6 @@ use Rattle.scan.specs.Search.{Recorded, stopAt}
 use Rattle.scan.specs.declared.ends.Stop.{Stop}
 use Rattle.scan.specs.declared.ends.Stop.the-variants as stop
 use Rattle.scan.proofs.SearchLaws.{Rises, Found, Stopped, AtFull, search-past}
-use Rattle.scan.proofs.MoveLaws.{moved-down-within}
 use Rattle.window.specs.Fill.{asking, ready, dropped, ofCapacity, widenedTo, wider}
 use Rattle.window.specs.declared.fill.Fill.{Fill}
 use Rattle.window.proofs.Laws.{sound-slid, sound-slid-window}
@@ -35,11 +34,11 @@ use Rattle.reader.specs.declared.state.Mark as reader
 use Rattle.reader.specs.declared.state.Phase.{Phase}
 use Rattle.reader.specs.declared.state.Phase.the-variants as phase
 use Rattle.reader.specs.State.{byteOf, withFill, withMark, inPhase, markAt}
-use Rattle.reader.specs.Read.{Said, gives, ends, refuses, Did, does, asked, placed, tooMany, given, reached, makesRoom, closed, stopped, searches, hunted}
+use Rattle.reader.specs.Read.{Said, gives, ends, refuses, does, asked, placed, tooMany, given, reached, makesRoom, closed, stopped, searches, hunted}
 use Rattle.reader.proofs.ReadLaws.{closed-full, closed-more, room-moves, room-wider, room-none, hunt-over, hunt-goes, filled-told, filled-not, neither}
 use Rattle.reader.proofs.RiseLaws.{moved-taken}
 use Rattle.reader.proofs.Kept.{isSearching, goesOn, filled-bytes, finds, stops, found-behind}
-use Rattle.runs.proofs.Tells.{Dues, judge, unlessOver, fromHere, endsOf, dueIn, dueTo, isSought, isWindow, isTable, Told, Tells, later, Rests, restSays, Says, Answers, Goes, Step, Hunts}
+use Rattle.runs.proofs.Tells.{Dues, judge, unlessOver, fromHere, endsOf, dueIn, dueTo, isSought, isWindow, isTable, Told, Tells, later, Rests, restSays, Says, Answers, Step, Hunts}
 use Rattle.runs.proofs.Begun.{text-from, text-slid, at-rest, ready-full, step-as, window-fits, step-rests}
 use Rattle.runs.proofs.SearchMarks.{first, first-late, late-least, SeesBy, foundAt, sees, closes, endsIn, ends-more, ends-count}
 

@@ -3,7 +3,7 @@
 use Prim.Native.Nat.{ℕ, _+_}
 use native.Mathlib.Nat.{le-trans}
 use mathlib.Core.Bool.{Bool, true, false, not, _&&_, false≢true}
-use mathlib.Core.List.{List, []}
+use mathlib.Core.List.{List}
 use mathlib.Core.Path.{_≡_, refl, sym, ap, subst, _∙_}
 use lib.ListN.{length, getD, take, drop}
 use lib.Dec.{eqb, ltb}
@@ -15,7 +15,7 @@ use Rattle.reader.specs.declared.state.Reader.{Reader}
 use Rattle.reader.specs.declared.state.Phase.{Phase}
 use Rattle.reader.specs.declared.state.Phase.the-variants as phase
 use Rattle.reader.specs.State.{Good, sane, lentAs}
-use Rattle.reader.specs.Read.{Did, hunted, led, ledTo, soughtAt, searchedOn, behind, passed, beginsAt, whenReady, lasts, readIn, readOf}
+use Rattle.reader.specs.Read.{Did, hunted, led, ledTo, soughtAt, behind, passed, beginsAt, whenReady, lasts, readIn, readOf}
 use Rattle.reader.proofs.Sanity.{and-true, sane-true}
 use Rattle.reader.proofs.ReadLaws.{waits, is-ready, led-by, led-on, led-mark, led-refused, lead-over, lead-asks, lead-in, lead-begins, begins-good, sought-mark, sought-astray, behind-ended, behind-next, passed-good, lent-true, read-repeats, read-goes}
 use Rattle.reader.proofs.Kept.{isSearching, Behind, Kept, Keeps, kept-begun, kept-searched, keeps-ready, keeps-begun, kept-read}

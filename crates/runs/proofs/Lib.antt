@@ -15,6 +15,7 @@ pub mod Given
 pub mod Reached
 pub mod Demand
 pub mod Refusals
+pub mod Waiting
 pub mod Progress
 pub mod Served
 pub mod Position

@@ -1,21 +1,17 @@
 -- Where a run stands: what is still due to the reader is what is left of the answers due since the run's origin. Setup begins so, and every call
 -- keeps it. Assumes nothing.
-use Prim.Native.Nat.{ℕ, zero, suc, _+_, _≤_}
+use Prim.Native.Nat.{ℕ, suc, _≤_}
 use native.Mathlib.Omega.{arith}
 use mathlib.Core.Bool.{Bool, true, false, false≢true}
 use mathlib.Core.List.{List, [], _∷_, map}
-use mathlib.Core.Option.{Option, none, some, Option·none-ne-some, Option·some-injective}
+use mathlib.Core.Option.{none, some, Option·none-ne-some, Option·some-injective}
 use mathlib.Core.Path.{_≡_, refl, sym, ap, subst, _∙_}
-use lib.ListN.{length, take, drop}
+use lib.ListN.{length, drop}
 use Rattle.growth.specs.declared.Policy.{Policy}
 use Rattle.growth.specs.Chain.{largest}
-use Rattle.meaning.specs.Input.{Rec}
-use Rattle.meaning.specs.Due as meant
-use Rattle.meaning.specs.OnePass.{Mark}
 use Rattle.meaning.proofs.Due.{saidOf}
 use Rattle.reader.specs.declared.state.Reader.{Reader}
 use Rattle.reader.specs.declared.state.Phase.{Phase}
-use Rattle.reader.specs.declared.state.Phase.the-variants as phase
 use Rattle.reader.specs.State.{Good}
 use Rattle.reader.specs.Read.{Said, asks, gives, ends, refuses}
 use Rattle.reader.specs.Calls.{Left, setupRefused, setupOf, made, reportOf, seekOf}
@@ -23,10 +19,10 @@ use Rattle.reader.proofs.CallLaws.{test-fitting, setup-made}
 use Rattle.reader.proofs.NeverState.{kept-made}
 use Rattle.runs.specs.Run.{State, state, Made, reading, afterRead, Brings, Event, read, brought, sought, Run, begun, by-read, by-report, by-seek, by-refused-report, by-refused-seek}
 use Rattle.runs.specs.Run as run
-use Rattle.runs.specs.Demand.{front, place, origin, answers, dueFrom}
-use Rattle.runs.proofs.Tells.{Dues, dueIn, dueTo, atSought, Tells, isWindow, isTable, Rests, later, Goes, Answers, Step}
+use Rattle.runs.specs.Demand.{origin, answers, dueFrom}
+use Rattle.runs.proofs.Tells.{dueIn, dueTo, atSought, Tells, isWindow, isTable, Rests, later, Goes, Answers, Step}
 use Rattle.runs.proofs.Step.{steps, still-tells}
-use Rattle.runs.proofs.Calls.{filledBy, Took, taken, tells-report, due-report, rests-report, Sought, seeks, report-refused, seek-refused}
+use Rattle.runs.proofs.Calls.{taken, tells-report, due-report, rests-report, Sought, seeks, report-refused, seek-refused}
 use Rattle.runs.proofs.Fine.{AllFine, fine-later, after, fine-front, said-front, fine-sought, said-sought}
 
 map-later : {A B : Type 0} (f : A → B) (d : List A) → map f (later d) ≡ later (map f d)

@@ -6,18 +6,15 @@ use mathlib.Core.List.{List, []}
 use mathlib.Core.Option.{Option, none, some, Option·none-ne-some, Option·some-injective}
 use mathlib.Core.Path.{_≡_, refl, sym, ap, subst, _∙_}
 use lib.ListN.{length}
-use lib.Dec.{eqb}
-use borrow.Author.Tests.{not-true, eq-eqb, ne-eqb}
-use Rattle.growth.specs.declared.Policy.{Policy}
-use Rattle.growth.specs.Chain.{largest}
+use borrow.Author.Tests.{eq-eqb, ne-eqb}
 use Rattle.reader.specs.declared.state.Reader.{Reader}
 use Rattle.reader.specs.declared.state.Phase.{Phase}
 use Rattle.reader.specs.declared.state.Phase.the-variants as phase
 use Rattle.reader.specs.State.{Good, sane, lentAs}
-use Rattle.reader.specs.Read.{Said, asks, gives, ends, refuses, Did, does, askFor, placed, lasts, readIn, readOf}
-use Rattle.reader.proofs.Sanity.{and-true, sane-true}
-use Rattle.reader.proofs.ReadLaws.{lent-true, neither, read-repeats, read-goes}
-use Rattle.runs.specs.Run.{State, Made, reading, afterRead, Event, Run}
+use Rattle.reader.specs.Read.{Said, asks, gives, ends, refuses, Did, does, placed, lasts, readIn, readOf}
+use Rattle.reader.proofs.Sanity.{sane-true}
+use Rattle.reader.proofs.ReadLaws.{lent-true, read-repeats, read-goes}
+use Rattle.runs.specs.Run.{State, reading, afterRead, Event}
 use Rattle.runs.specs.Refusals.{Lasts, Leaves, Refusals}
 use Rattle.runs.proofs.Tells.{isWindow, isTable, restSays, Settled}
 use Rattle.runs.proofs.Reached.{Reached, step, reached-read, runs-on, reached-made}

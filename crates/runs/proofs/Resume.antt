@@ -1,6 +1,6 @@
 -- Resuming: what `position` reports is the place of a record of the reading, since it was given or refused there; and from such a place on the
 -- input has the same records again. Assumes nothing.
-use Prim.Native.Nat.{ℕ, zero, suc, _+_, _≤_, _<_}
+use Prim.Native.Nat.{ℕ, zero, suc, _+_, _≤_}
 use native.Mathlib.Omega.{arith}
 use mathlib.Core.Bool.{Bool, true, false, cond, _||_, false≢true}
 use mathlib.Core.List.{List, [], _∷_, _++_}
@@ -8,8 +8,8 @@ use mathlib.Core.Option.{Option, none, some}
 use mathlib.Core.Path.{_≡_, refl, sym, ap, subst, _∙_}
 use lib.ListN.{length, getD, drop}
 use lib.Seq.{drop-cons}
-use lib.Dec.{eqb, ltb}
-use borrow.Author.Tests.{eqb-true, ne-eqb, le-ltb}
+use lib.Dec.{eqb}
+use borrow.Author.Tests.{ne-eqb, le-ltb}
 use Rattle.growth.specs.declared.Policy.{Policy}
 use Rattle.growth.specs.Chain.{largest}
 use Rattle.meaning.specs.Input.{Rec, begins, Meaning, records, refused, recordsFrom, meaning}
@@ -21,16 +21,15 @@ use Rattle.window.specs.Fill.{most, holds}
 use Rattle.reader.specs.declared.state.Reader.{Reader}
 use Rattle.reader.specs.declared.state.Phase.{Phase}
 use Rattle.reader.specs.declared.state.Phase.the-variants as phase
-use Rattle.reader.specs.State.{Sane, byteOf, sane}
+use Rattle.reader.specs.State.{Sane, byteOf}
 use Rattle.reader.specs.Read.{Said, asks, gives, ends, refuses}
 use Rattle.reader.specs.Calls.{Place, at, nowhere, unknown, Left, misplaced, shownIn, placeOf, seekOf}
 use Rattle.reader.proofs.Sanity.{sane-true, sane-byte}
 use Rattle.reader.proofs.CallLaws.{place-shown, seek-in, seek-out}
-use Rattle.runs.specs.Run.{State, Made, reading, afterRead, Event, read, brought, sought, Run, begun, by-read, by-report, by-seek, by-refused-report, by-refused-seek}
+use Rattle.runs.specs.Run.{State, Made, reading, afterRead, Event, read, Run, begun, by-read, by-report, by-seek, by-refused-report, by-refused-seek}
 use Rattle.runs.specs.Demand.{Origin, front, place, origin, answers, dueFrom, nth, Hears}
 use Rattle.runs.specs.Position.{lastGiven, named, positionAfter}
 use Rattle.runs.specs.Resume.{recs, recordsOf, Reported, Resumes}
-use Rattle.runs.proofs.Tells.{Tells}
 use Rattle.runs.proofs.Calls.{seeks}
 use Rattle.runs.proofs.Reached.{Reached, runs-on, reached-made}
 use Rattle.runs.proofs.Demand.{hears, demand3}

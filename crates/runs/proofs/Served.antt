@@ -1,6 +1,6 @@
 -- Demand 3 is not empty: a caller that brings what it chooses of the bytes asked for hears an answer, since each report takes one of the chances of
--- Progress.antt; so it hears all that are due, one after the other. Assumes nothing.
-use Prim.Native.Nat.{ℕ, zero, suc, _+_, _-_, _≤_, _<_, max, min}
+-- Waiting.antt; so it hears all that are due, one after the other. Assumes nothing.
+use Prim.Native.Nat.{ℕ, zero, suc, _+_, _-_, _≤_, _<_}
 use native.Mathlib.Omega.{arith}
 use native.Mathlib.Nat.{le-refl}
 use mathlib.Core.Bool.{Bool, true, false, false≢true}
@@ -9,7 +9,6 @@ use mathlib.Core.Option.{Option, none, some}
 use mathlib.Core.Path.{_≡_, refl, sym, ap, subst, _∙_}
 use lib.ListN.{length, take, drop, length-drop}
 use lib.Seq.{length-take-le, take-at, drop-at}
-use Rattle.growth.specs.declared.Policy.{Policy}
 use Rattle.growth.specs.Chain.{largest}
 use Rattle.meaning.specs.Input.{Rec, Meaning, records, refused, meaning}
 use Rattle.meaning.specs.Due as meant
@@ -21,16 +20,16 @@ use Rattle.window.specs.Fill.{most}
 use Rattle.window.proofs.Laws.{Asked}
 use Rattle.reader.specs.declared.state.Reader.{Reader}
 use Rattle.reader.specs.State.{withFill}
-use Rattle.reader.specs.Read.{Said, asks, gives, ends, refuses, askFor}
-use Rattle.reader.specs.Calls.{Left, reportOf}
-use Rattle.runs.specs.Run.{State, state, Made, reading, afterRead, offset, Brings, Event, read, brought, sought, Run, begun, by-read, by-report}
-use Rattle.runs.specs.Demand.{Origin, front, origin, answers, dueFrom, nth, Hears}
+use Rattle.reader.specs.Read.{Said, asks, gives, ends, refuses}
+use Rattle.reader.specs.Calls.{Left}
+use Rattle.runs.specs.Run.{State, state, reading, afterRead, offset, Brings, Event, read, brought, Run, begun, by-read, by-report}
+use Rattle.runs.specs.Demand.{front, origin, answers, dueFrom, nth, Hears}
 use Rattle.runs.specs.Progress.{left, isAsk}
-use Rattle.runs.specs.Served.{count, roomOf, offsetOf, Follows, Closed, Serves, Served}
+use Rattle.runs.specs.Served.{count, Follows, Closed, Serves, Served}
 use Rattle.runs.proofs.Tells.{Tells, dueTo, Goes}
 use Rattle.runs.proofs.Calls.{filledBy, Took, takes}
-use Rattle.runs.proofs.Progress.{chances, told-answers, chances-read, chances-report, no-chance}
-use Rattle.runs.proofs.Reached.{Reached, step, reached-read, runs-on, reached-made}
+use Rattle.runs.proofs.Waiting.{chances, told-answers, chances-read, chances-report, no-chance}
+use Rattle.runs.proofs.Reached.{Reached, step, runs-on, reached-made}
 use Rattle.runs.proofs.Demand.{hears}
 
 -- no bytes

@@ -5,7 +5,6 @@ use Prim.Native.Nat.{ℕ, suc, _+_, _-_, _≤_, _<_}
 use native.Mathlib.Omega.{arith}
 use mathlib.Core.Bool.{Bool, true, false, cond, _&&_, false≢true}
 use mathlib.Core.List.{List, [], _∷_, _++_, map}
-use mathlib.Core.Option.{none}
 use mathlib.Core.Path.{_≡_, refl, sym, ap, subst, _∙_}
 use lib.ListN.{length, take, drop}
 use lib.Seq.{drop-drop, length-take-le}
@@ -25,15 +24,14 @@ use Rattle.reader.specs.declared.state.Phase.{Phase}
 use Rattle.reader.specs.declared.state.Phase.the-variants as phase
 use Rattle.reader.specs.State.{Sane, Good, byteOf, lentAs, rising}
 use Rattle.reader.specs.Read.{Said, asks, gives, ends, refuses}
-use Rattle.reader.specs.Calls.{Left, reportOf}
 use Rattle.reader.proofs.Sanity.{and-true, true-sane}
 use Rattle.reader.proofs.Kept.{isSearching, Behind, goesOn}
-use Rattle.runs.specs.Run.{State, state, reading, afterRead, Brings, Event, read, Run, begun, by-read, by-report, by-seek, by-refused-report, by-refused-seek}
-use Rattle.runs.specs.Standing.{own, judgedAt, firstOf, standingIn, Plain, OnlyAsks, Asks, Standing}
+use Rattle.runs.specs.Run.{State, reading}
+use Rattle.runs.specs.Standing.{own, judgedAt, firstOf, standingIn, Plain, Asks, Standing}
 use Rattle.runs.proofs.Tells.{Dues, judge, unlessOver, fromHere, atSought, endsOf, dueIn, dueTo, isSought, Tells, Says, Answers, Goes}
 use Rattle.runs.proofs.SearchMarks.{ends-count}
-use Rattle.runs.proofs.Step.{steps, still-tells}
-use Rattle.runs.proofs.Calls.{taken, tells-report, due-report, report-refused, seek-refused}
+use Rattle.runs.proofs.Waiting.{waits}
+use Rattle.runs.proofs.Step.{steps}
 use Rattle.runs.proofs.Own.{ownMark, owns, own-len, tableAt, own-table}
 
 -- what a read says where an answer is due, and where answers are due
@@ -239,58 +237,6 @@ module _ (X : List ℕ) (start : State) (good : Good (start .reader) (start .win
       sought-is phase.Table t = absurd (false≢true t)
       sought-is phase.Astray t = absurd (false≢true t)
 
--- an ask, and nothing else but asks before it
-only-asks : (a : Said) (h : List Event) → OnlyAsks (read a ∷ h) → OnlyAsks h × ((p : ℕ) × ((m : ℕ) × ((o : ℕ) × (a ≡ asks p m o))))
-only-asks (asks p m o) h only = (only, (p, (m, (o, refl))))
-only-asks (gives l b) h only = absurd only
-only-asks ends h only = absurd only
-only-asks (refuses n vs) h only = absurd only
-
-module _ (X : List ℕ) (C : ℕ) (d : Dues) where
-  -- the relation holds, and d is due
-  record Waits (s : State) : Type 0 where
-    tells : Tells X C (s .reader) (s .window) (s .table)
-    due-is : dueTo X C (s .reader) (s .table) ≡ d
-
-  waits-ask : (s : State) (p m o : ℕ) → reading s .said ≡ asks p m o → Waits s → Waits (afterRead s)
-  waits-ask s p m o is k =
-      let r = s .reader in
-      let due′ = dueTo X C r (s .table) in
-      let step = steps X C r (s .window) (s .table) (k .tells) in
-      let goes : Goes (asks p m o) due′ X C (reading s .reader) (reading s .table) =
-      subst (λ (a : Said). Goes a due′ X C (reading s .reader) (reading s .table)) is (step .goes) in
-      record { tells = still-tells X C r (s .window) (s .table) (k .tells); due-is = goes .0 ∙ k .due-is }
-
-  waits-report :
-      (n : ℕ) (w : List ℕ) (s : State) → reportOf n (s .reader) .refusal ≡ none → Brings X n s w → Waits s →
-      Waits (state (reportOf n (s .reader) .reader) w (s .table))
-  waits-report n w s is b k =
-      let r = s .reader in
-      let took = taken X C r (s .window) (s .table) (k .tells) n is in
-      subst (λ (l : Left). Waits (state (l .reader) w (s .table))) (sym (took .reader-is))
-      (record {
-        tells = tells-report X C r (s .window) (s .table) (k .tells) n w took b;
-        due-is = due-report X C r (s .window) (s .table) (k .tells) n w took b ∙ k .due-is;
-      })
-
-  waits-same : (s : State) (q : Reader) → q ≡ s .reader → Waits s → Waits (state q (s .window) (s .table))
-  waits-same s q is k =
-      subst (λ (o : Reader). Waits (state o (s .window) (s .table))) (sym is) (record { tells = k .tells; due-is = k .due-is })
-
-  waits-on : (start : State) → Waits start → (h : List Event) (s : State) → Run X start h s → OnlyAsks h → Waits s
-  waits-on start k h s begun only = k
-  waits-on start k h s (by-read h₁ s₁ q) only =
-      let u = only-asks (reading s₁ .said) h₁ only in
-      waits-ask s₁ (u .1 .0) (u .1 .1 .0) (u .1 .1 .1 .0) (u .1 .1 .1 .1) (waits-on start k h₁ s₁ q (u .0))
-  waits-on start k h s (by-report n w h₁ s₁ q is b) only = waits-report n w s₁ is b (waits-on start k h₁ s₁ q only)
-  waits-on start k h s (by-seek line byte h₁ s₁ q is) only = absurd only
-  waits-on start k h s (by-refused-report n number h₁ s₁ q is) only =
-      let before = waits-on start k h₁ s₁ q only in
-      waits-same s₁ _ (report-refused X C (s₁ .reader) (s₁ .window) (s₁ .table) (before .tells) n number is) before
-  waits-on start k h s (by-refused-seek line byte number h₁ s₁ q is) only =
-      let before = waits-on start k h₁ s₁ q only in
-      waits-same s₁ _ (seek-refused X C (s₁ .reader) (s₁ .window) (s₁ .table) (before .tells) line byte number is) before
-
 -- a read says the first of what is due
 says-for : (s : Said) (a : meant.Said Mark) (r : Reader) (e : List ℕ) → Says s a r e → s ≡ saidFor a
 says-for (asks p m o) a r e says = absurd says
@@ -325,7 +271,7 @@ standing X start sane′ lent plain text told h s run only =
       table-lent = eqb-true (r .slots) (length (start .table)) (lengths .1);
     } in
     let c = C X start good plain in
-    let k = waits-on X c (dueTo X c r (start .table)) start (record { tells = start-tells X start good plain text told; due-is = refl }) h s run only in
+    let k = waits X c start (start-tells X start good plain text told) h s run only in
     subst (Asks (reading s .said)) (ap firstSaid (k .due-is) ∙ first-due X c r (start .table) (good .is-sane) (good .table-lent) (r .phase))
     (goes-first (reading s .said) (dueTo X c (s .reader) (s .table)) X c (reading s .reader) (reading s .table)
     (steps X c (s .reader) (s .window) (s .table) (k .tells) .goes))

@@ -1,11 +1,10 @@
 -- One read: whatever the phase, it asks and the same is due, or it says what is due next. Assumes nothing.
-use Prim.Native.Nat.{ℕ, _<_}
-use mathlib.Core.Bool.{Bool, true, false, not, _&&_, _||_, false≢true}
+use Prim.Native.Nat.{ℕ}
+use mathlib.Core.Bool.{Bool, true, false, not, _&&_, false≢true}
 use mathlib.Core.List.{List, [], _∷_}
 use mathlib.Core.Option.{some}
 use mathlib.Core.Path.{_≡_, refl, sym, ap, subst, _∙_}
 use lib.ListN.{length}
-use lib.Dec.{eqb}
 use borrow.Author.Tests.{not-true}
 use Rattle.window.specs.Fill.{asking, ready}
 use Rattle.meaning.specs.Due as meant
@@ -13,14 +12,14 @@ use Rattle.reader.specs.declared.state.Reader.{Reader}
 use Rattle.reader.specs.declared.state.Phase.{Phase}
 use Rattle.reader.specs.declared.state.Phase.the-variants as phase
 use Rattle.reader.specs.State.{sane, lentAs, withFill}
-use Rattle.reader.specs.Read.{Said, ends, refuses, Did, does, asked, askFor, placed, whenReady, led, soughtAt, searchedOn, hunted, behind, lasts, readIn, readOf}
+use Rattle.reader.specs.Read.{Said, ends, refuses, Did, does, asked, askFor, placed, whenReady, led, soughtAt, searchedOn, lasts, readIn, readOf}
 use Rattle.reader.proofs.Sanity.{and-true, sane-true}
 use Rattle.reader.proofs.ReadLaws.{waits, is-ready, on-rising, lent-true, read-repeats, read-goes}
 use Rattle.reader.proofs.Kept.{isSearching, kept-searched, kept-rising}
 use Rattle.meaning.specs.OnePass.{Mark}
 use Rattle.runs.proofs.Keeping.{by-read, read-good}
 use Rattle.runs.proofs.Begun.{step-as, unready-told}
-use Rattle.runs.proofs.Tells.{Dues, dueIn, dueTo, later, Tells, Told, Rests, restSays, Settled, Says, Goes, Answers, Step}
+use Rattle.runs.proofs.Tells.{Dues, dueIn, dueTo, later, Tells, restSays, Settled, Says, Goes, Answers, Step}
 use Rattle.runs.proofs.Hunt.{hunts}
 use Rattle.runs.proofs.Lead.{leads}
 use Rattle.runs.proofs.Sought.{soughts, behinds}

@@ -1,11 +1,11 @@
 -- What is still due to a reader, read off its numbers: the relation that every call keeps (`Tells`), and what a read does to it (`Goes`).
 -- The answers due are in the one-pass form of `meaning`, whose arguments are the reader's own. Assumes nothing.
-use Prim.Native.Nat.{ℕ, suc, _+_, _-_, _≤_, _<_}
+use Prim.Native.Nat.{ℕ, suc, _+_, _-_, _<_}
 use mathlib.Core.Bool.{Bool, true, false, cond}
 use mathlib.Core.List.{List, [], _∷_, _++_, map}
 use mathlib.Core.Option.{Option, none, some}
 use mathlib.Core.Path.{_≡_}
-use lib.ListN.{length, take, drop}
+use lib.ListN.{take, drop}
 use lib.Dec.{eqb}
 use Rattle.growth.specs.Chain.{largest}
 use Rattle.meaning.specs.OnePass.{Mark, marks, leadMarks, judgedMark, placeMark, dueMarks}

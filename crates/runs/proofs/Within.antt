@@ -1,18 +1,18 @@
 -- What a view names lies in the bytes that it was given, so that it shows the same in a longer window. Assumes nothing.
-use Prim.Native.Nat.{ℕ, zero, suc, _+_, _-_, _≤_, _<_}
+use Prim.Native.Nat.{ℕ, suc, _+_, _-_, _≤_, _<_}
 use native.Mathlib.Decide.{decLe}
 use native.Mathlib.Omega.{arith}
 use mathlib.Core.Bool.{Bool, true, false}
-use mathlib.Core.List.{List, [], _∷_, map}
+use mathlib.Core.List.{List, [], _∷_}
 use mathlib.Core.Option.{Option, none as without, some}
-use mathlib.Core.Path.{_≡_, refl, sym, ap, subst, _∙_}
+use mathlib.Core.Path.{_≡_, refl, sym, ap, _∙_}
 use lib.ListN.{length, getD, take, drop, length-drop}
 use lib.Seq.{take-take, length-take-le}
 use lib.Dec.{ltb, leb}
 use Rattle.meaning.specs.Parts.{idOf, descOf}
 use Rattle.view.specs.Rising.{rising}
 use Rattle.view.specs.View.{Shown, part, none, refuses, ifRising, lineOf, headIn, idIn, descIn, lineIn, after, between}
-use Rattle.view.specs.Full.{Whole, window, front, refuses as refuses9, left, filled, joinedAt, wholeAt, fullIn, picked}
+use Rattle.view.specs.Full.{Whole, window, front, refuses as refuses9, filled, joinedAt, wholeAt, fullIn, picked}
 use Rattle.view.specs.Shows.{Shows}
 use Rattle.view.proofs.Rises.{first-inside, rising-next}
 use Rattle.view.proofs.Heads.{id-within, desc-none, desc-some, line-within}

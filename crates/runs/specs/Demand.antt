@@ -16,11 +16,10 @@ use Rattle.meaning.specs.Due.{due}
 use Rattle.reader.specs.Read.{Said, asks, gives, ends, refuses}
 use Rattle.reader.specs.Calls.{at, placeOf}
 use Rattle.view.specs.View.{headIn, idIn, descIn, lineIn, lineCount}
-use Rattle.view.specs.View as view
 use Rattle.view.specs.Full.{left, fullIn, picked}
 use Rattle.view.specs.Full as full
 use Rattle.view.specs.Shows.{Shows}
-use Rattle.view.specs.Current.{ofCurrent, refused, Counted, are}
+use Rattle.view.specs.Current.{ofCurrent, refused, are}
 use Rattle.view.specs.Current as current
 use Rattle.runs.specs.Run.{State, Made, reading, afterRead, Event, read, brought, sought, Run}
 use Rattle.runs.specs.Run as run

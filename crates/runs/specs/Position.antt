@@ -7,7 +7,7 @@ use mathlib.Core.List.{List, [], _∷_}
 use mathlib.Core.Path.{_≡_}
 use lib.Dec.{eqb}
 use Rattle.growth.specs.declared.Policy.{Policy}
-use Rattle.reader.specs.Read.{Said, asks, gives, ends, refuses}
+use Rattle.reader.specs.Read.{asks, gives, ends, refuses}
 use Rattle.reader.specs.Calls.{Place, at, nowhere, placeOf}
 use Rattle.runs.specs.Run.{State, Made, Event, read, brought, sought, refused, Run}
 

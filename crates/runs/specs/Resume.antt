@@ -2,7 +2,6 @@
 -- of the input reported, given to a new reader with any other setup, brings the same records from there on, up to what its own window and table
 -- hold. Assumes nothing.
 use Prim.Native.Nat.{ℕ}
-use mathlib.Core.Bool.{true}
 use mathlib.Core.List.{List, [], _∷_, _++_}
 use mathlib.Core.Option.{none}
 use mathlib.Core.Path.{_≡_}

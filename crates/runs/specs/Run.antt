@@ -1,6 +1,6 @@
 -- Runs of a reader (01, "The window and its refills"): reads, reports that bring an input's bytes, and seeks, in any order. What each call
 -- answers and leaves is what the contracts of `next`, `report` and `seek` say. Assumes nothing.
-use Prim.Native.Nat.{ℕ, suc, _+_, _≤_}
+use Prim.Native.Nat.{ℕ, _+_, _≤_}
 use mathlib.Core.List.{List, [], _∷_}
 use mathlib.Core.Option.{none, some}
 use mathlib.Core.Path.{_≡_}

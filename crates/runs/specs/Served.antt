@@ -7,7 +7,7 @@ use lib.ListN.{length, drop}
 use Rattle.growth.specs.declared.Policy.{Policy}
 use Rattle.growth.specs.Chain.{largest}
 use Rattle.window.specs.Fill.{most}
-use Rattle.reader.specs.Read.{Said, asks, gives, ends, refuses}
+use Rattle.reader.specs.Read.{asks, gives, ends, refuses}
 use Rattle.runs.specs.Run.{State, Made, Event, read, brought, sought, refused, Run}
 use Rattle.runs.specs.Demand.{front, answers, dueFrom}
 
