@@ -1,5 +1,7 @@
--- Runs of a reader and what is owed of them: demand 3, resuming, progress, what refusals leave, `position` by what was heard.
+-- Runs of a reader and what is owed of them: demand 3, resuming, progress, what refusals leave, `position` by what was heard; and
+-- sample runs.
 pub mod Run
 pub mod Demand
 pub mod Position
 pub mod Standing
+pub mod Samples
