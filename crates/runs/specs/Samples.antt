@@ -165,6 +165,9 @@ table =
     (record′ 1 0 (ascii "a") ∷ record′ 2 3 (ascii "id") ∷ end-of 2 3 ∷ []) ∷
     sample (ascii ">a\n>id\nACGTACG\n") 2 (std 3 20 4) (reads ∷ reads ∷ reads ∷ [])
     (record′ 1 0 (ascii "a") ∷ refuses′ 3 2 3 ∷ refuses′ 3 2 3 ∷ []) ∷
+    -- one of 11 behind a blank line too, which is not counted to it
+    sample (ascii "\n>id\nACGTAC\n>") 2 (std 3 20 4) (reads ∷ reads ∷ reads ∷ [])
+    (record′ 2 1 (ascii "id") ∷ record′ 4 12 [] ∷ end-of 4 12 ∷ []) ∷
     -- Refusal 4: three lines and two slots, of a record that the window holds. With three slots it is read.
     sample (ascii ">a\nA\nC\n>b") 1 (std 20 20 2) (reads ∷ reads ∷ []) (refuses′ 4 1 0 ∷ refuses′ 4 1 0 ∷ []) ∷
     sample (ascii ">a\nA\nC\n>b") 1 (std 20 20 3) (reads ∷ reads ∷ []) (record′ 1 0 (ascii "a") ∷ record′ 4 7 (ascii "b") ∷ []) ∷
