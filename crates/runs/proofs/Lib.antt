@@ -14,3 +14,4 @@ pub mod Within
 pub mod Given
 pub mod Reached
 pub mod Demand
+pub mod Sample
