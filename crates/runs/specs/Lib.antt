@@ -1,4 +1,5 @@
--- Runs of a reader and what is owed of them: demand 3, resuming, progress, what refusals leave, `position` by what was heard.
+-- Runs of a reader and what is owed of them: demand 3, resuming, progress, what refusals leave, `position` by what was heard; and
+-- sample runs.
 pub mod Run
 pub mod Demand
 pub mod Refusals
@@ -7,3 +8,4 @@ pub mod Progress
 pub mod Served
 pub mod Resume
 pub mod Standing
+pub mod Samples
