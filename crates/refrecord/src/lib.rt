@@ -1,0 +1,55 @@
+// A record that borrows window and line ends (01, module 8; fasta.rs, `RefRecord`): a reader's current record as one value, with the window
+// and the table that were lent to the reader. Its functions are the views of the current record (crate view), so they refuse as those do:
+// 7 without a current record, 11 in a state that refusal 11 names.
+ghost use Rattle.view.specs.Current.{Head, Id, Desc, Seq};
+ghost use Rattle.refrecord.specs.Record.{New};
+use reader::Reader;
+use view::View;
+
+// The fields stand in the order in which the views take them. Window and table may be lent for different times.
+pub struct RefRecord<'w, 'e> {
+    pub reader: Reader,
+    pub window: &'w [u8],
+    pub ends: &'e [usize],
+}
+
+impl<'w, 'e> RefRecord<'w, 'e> {
+    // The current record of a reader. Nothing is tested here: without a current record each view refuses.
+    pub fn new(reader: Reader, window: &'w [u8], ends: &'e [usize]) -> RefRecord<'w, 'e>
+        ensures { λ r. ⌜ New reader (window .entry) (ends .entry) r ⌝ }
+    {
+        RefRecord {
+            reader,
+            window,
+            ends,
+        }
+    }
+
+    // The head.
+    pub fn head(self) -> View
+        ensures { λ r. ⌜ Head (self .entry .reader) (now (self .entry .window)) (now (self .entry .ends)) r ⌝ }
+    {
+        view::head(self.reader, self.window, self.ends)
+    }
+
+    // Its id.
+    pub fn id(self) -> View
+        ensures { λ r. ⌜ Id (self .entry .reader) (now (self .entry .window)) (now (self .entry .ends)) r ⌝ }
+    {
+        view::id(self.reader, self.window, self.ends)
+    }
+
+    // Its description, or none.
+    pub fn desc(self) -> View
+        ensures { λ r. ⌜ Desc (self .entry .reader) (now (self .entry .window)) (now (self .entry .ends)) r ⌝ }
+    {
+        view::desc(self.reader, self.window, self.ends)
+    }
+
+    // The raw sequence.
+    pub fn seq(self) -> View
+        ensures { λ r. ⌜ Seq (self .entry .reader) (now (self .entry .window)) (now (self .entry .ends)) r ⌝ }
+    {
+        view::seq(self.reader, self.window, self.ends)
+    }
+}
