@@ -1,2 +1,4 @@
--- The walk that the views of a borrowing record share, and that each promise allows one answer.
+-- What a borrowing record owns, the walk that its views share, and that each promise allows one answer.
+pub mod Held
 pub mod Thin
+pub mod Unique

@@ -2,7 +2,7 @@
 // and the table that were lent to the reader. Its functions are the views of the current record (crate view), so they refuse as those do:
 // 7 without a current record, 11 in a state that refusal 11 names.
 ghost use Rattle.view.specs.Current.{Head, Id, Desc, Seq};
-ghost use Rattle.refrecord.specs.Record.{New};
+ghost use Rattle.refrecord.specs.Record.{New, Of, LineOf};
 use reader::Reader;
 use view::View;
 
@@ -27,29 +27,36 @@ impl<'w, 'e> RefRecord<'w, 'e> {
 
     // The head.
     pub fn head(self) -> View
-        ensures { λ r. ⌜ Head (self .entry .reader) (now (self .entry .window)) (now (self .entry .ends)) r ⌝ }
+        ensures { λ r. ⌜ Of Head (self .entry) r ⌝ }
     {
         view::head(self.reader, self.window, self.ends)
     }
 
     // Its id.
     pub fn id(self) -> View
-        ensures { λ r. ⌜ Id (self .entry .reader) (now (self .entry .window)) (now (self .entry .ends)) r ⌝ }
+        ensures { λ r. ⌜ Of Id (self .entry) r ⌝ }
     {
         view::id(self.reader, self.window, self.ends)
     }
 
     // Its description, or none.
     pub fn desc(self) -> View
-        ensures { λ r. ⌜ Desc (self .entry .reader) (now (self .entry .window)) (now (self .entry .ends)) r ⌝ }
+        ensures { λ r. ⌜ Of Desc (self .entry) r ⌝ }
     {
         view::desc(self.reader, self.window, self.ends)
     }
 
     // The raw sequence.
     pub fn seq(self) -> View
-        ensures { λ r. ⌜ Seq (self .entry .reader) (now (self .entry .window)) (now (self .entry .ends)) r ⌝ }
+        ensures { λ r. ⌜ Of Seq (self .entry) r ⌝ }
     {
         view::seq(self.reader, self.window, self.ends)
+    }
+
+    // Its sequence line i, or refusal 8.
+    pub fn line(self, i: usize) -> View
+        ensures { λ r. ⌜ LineOf (self .entry) i r ⌝ }
+    {
+        view::line(self.reader, self.window, self.ends, i)
     }
 }

@@ -40,7 +40,7 @@ use Rattle.reader.proofs.state.Reader as R
 use Rattle.reader.proofs.state.Reader.Laws as R′
 use Rattle.refrecord.specs.Record.{borrowing}
 use Rattle.refrecord.specs.declared.RefRecord.{RefRecord}
-use Rattle.refrecord.proofs.Thin.{D, L}
+use Rattle.refrecord.proofs.Held.{D, L}
 use Rattle.refrecord.proofs.RefRecord.new.Key as key
 use Rattle.refrecord.proofs.RefRecord.new as own
 use Rattle.refrecord.proofs.RefRecord.new.Statement as stated
