@@ -7,8 +7,8 @@ use denote.Ref.{RefT, now}
 use Rattle.reader.specs.declared.state.Reader.{Reader}
 use Rattle.view.specs.Current.{Head, Id, Desc, Seq}
 use Rattle.view.specs.declared.View.{View}
-use Rattle.view.proofs.Unique.{current-head-unique, current-id-unique, current-desc-unique, current-seq-unique, current-line-unique}
-use Rattle.refrecord.specs.Record.{New, Of, LineOf}
+use Rattle.view.proofs.Unique.{current-head-unique, current-id-unique, current-desc-unique, current-seq-unique, current-line-unique, shown-unique as part-unique}
+use Rattle.refrecord.specs.Record.{New, Of, LineOf, ShownOf}
 use Rattle.refrecord.specs.declared.RefRecord.{RefRecord}
 
 pub new-unique : (reader : Reader) (window ends : RefT (List ℕ)) (r s : RefRecord) → New reader window ends r → New reader window ends s → r ≡ s
@@ -28,3 +28,6 @@ seq-unique d = current-seq-unique (d .reader) (now (d .window)) (now (d .ends))
 
 pub line-unique : (d : RefRecord) (i : ℕ) (r s : View) → LineOf d i r → LineOf d i s → r ≡ s
 line-unique d = current-line-unique (d .reader) (now (d .window)) (now (d .ends))
+
+pub shown-unique : (d : RefRecord) (view : View) (r s : List ℕ) → ShownOf d view r → ShownOf d view s → r ≡ s
+shown-unique d view = part-unique view (now (d .window))

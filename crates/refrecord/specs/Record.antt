@@ -6,6 +6,7 @@ use mathlib.Core.Path.{_≡_}
 use denote.Ref.{RefT, now}
 use Rattle.reader.specs.declared.state.Reader.{Reader}
 use Rattle.view.specs.Current.{Line}
+use Rattle.view.specs.View.{ShownIn}
 use Rattle.view.specs.declared.View.{View}
 use Rattle.refrecord.specs.declared.RefRecord.{RefRecord}
 
@@ -21,3 +22,6 @@ Of P r = P (r .reader) (now (r .window)) (now (r .ends))
 
 abbrev pub LineOf : RefRecord → (i : ℕ) → View → Type 0
 LineOf r i = Line (r .reader) (now (r .window)) (now (r .ends)) i
+
+abbrev pub ShownOf : RefRecord → View → List ℕ → Type 0
+ShownOf r view = ShownIn view (now (r .window))

@@ -2,7 +2,7 @@
 // and the table that were lent to the reader. Its functions are the views of the current record (crate view), so they refuse as those do:
 // 7 without a current record, 11 in a state that refusal 11 names.
 ghost use Rattle.view.specs.Current.{Head, Id, Desc, Seq};
-ghost use Rattle.refrecord.specs.Record.{New, Of, LineOf};
+ghost use Rattle.refrecord.specs.Record.{New, Of, LineOf, ShownOf};
 use reader::Reader;
 use view::View;
 
@@ -58,5 +58,12 @@ impl<'w, 'e> RefRecord<'w, 'e> {
         ensures { λ r. ⌜ LineOf (self .entry) i r ⌝ }
     {
         view::line(self.reader, self.window, self.ends, i)
+    }
+
+    // The part itself that a view names, empty on a refusal and where there is none. It lives as long as the window is lent.
+    pub fn shown(self, view: View) -> &'w [u8]
+        ensures { λ r. ⌜ ShownOf (self .entry) view (now r) ⌝ }
+    {
+        view::shown(view, self.window)
     }
 }
