@@ -204,6 +204,7 @@ module _ {own : Bool} (r : Reader) (w e : List ℕ) (k : Kept own r w e) where
       go phase.Window = refl
       go phase.Table = refl
       go phase.Astray = refl
+      go phase.Ahead = refl
 
   present : isMissing (currentOf (length w) (length e) r) ≡ false
   present = go (isCurrent (r .phase)) refl

@@ -27,9 +27,10 @@ use Rattle.window.proofs.Laws.{input-fits-word, sound-slid}
 use Rattle.reader.specs.declared.state.Reader.{Reader}
 use Rattle.reader.specs.declared.state.Mark.{Mark}
 use Rattle.reader.specs.declared.state.Answer.the-variants as answer
+use Rattle.reader.specs.declared.state.Phase.{Phase}
 use Rattle.reader.specs.declared.state.Phase.the-variants as phase
-use Rattle.reader.specs.State.{Sane, Good, sane, lentAs, withFill, withMark, inPhase, markAt, rising, endsRise}
-use Rattle.reader.specs.Read.{asks, ends, refuses, saidBy, Did, does, askFor, asked, given, tooLong, tooMany, reached, movedToFront, grows, makesRoom, closed, stopped, searches, hunted, beginsAt, passed, whenReady, behind, soughtAt, searchedOn, led, ledTo, leadOn, leadFound, leadDropped, LeadIn, lasts, readIn, readOf}
+use Rattle.reader.specs.State.{Sane, Good, sane, lentAs, isCurrent, withFill, withMark, inPhase, markAt, rising, endsRise}
+use Rattle.reader.specs.Read.{asks, ends, refuses, saidBy, Did, does, askFor, asked, given, tooLong, tooMany, reached, movedToFront, grows, makesRoom, closed, stopped, searches, hunted, beginsAt, passed, whenReady, behind, soughtAt, searchedOn, onward, led, ledTo, leadOn, leadFound, leadDropped, LeadIn, lasts, readIn, readOf}
 
 -- an ask that is opened
 pub ask-opens : (r : Reader) (a : Ask) (f : Fill) → a ≡ askOf (r .fill) → f ≡ asking true (r .fill) → r .fill .base .0 + r .fill .filled ≤ most
@@ -141,6 +142,30 @@ hunt-good r w e g from p s x is =
       table-lent = g .table-lent ∙ sym (f .same-length);
     }
 
+-- the same in another phase
+pub phase-good : (r : Reader) (w e : List ℕ) → Good r w e → (p : Phase) → (isCurrent p ≡ true → 1 ≤ r .mark .count) → Good (inPhase p r) w e
+phase-good r w e g p has =
+    let m = g .is-sane in
+    record {
+      is-sane =
+          record {
+            capacity-least = m .capacity-least;
+            window-sound = m .window-sound;
+            start-search = m .start-search;
+            search-filled = m .search-filled;
+            count-slots = m .count-slots;
+            count-search = m .count-search;
+            current-has-end = has;
+            line-least = m .line-least;
+            line-most = m .line-most;
+          };
+      window-lent = g .window-lent;
+      table-lent = g .table-lent;
+    }
+
+pub searching-good : (r : Reader) (w e : List ℕ) → Good r w e → Good (inPhase phase.Searching r) w e
+searching-good r w e g = phase-good r w e g phase.Searching (λ c. absurd (false≢true c))
+
 -- a record that begins in the filled bytes, on a line within its bounds
 pub begins-good : (r : Reader) (w e : List ℕ) → Good r w e → (start line : ℕ) → start ≤ r .fill .filled → 1 ≤ line → line ≤ r .fill .base .0 + start + 1
     → Good (beginsAt start line r) w e
@@ -190,8 +215,14 @@ module _ (r : Reader) (w e : List ℕ) where
   unfolding soughtAt
   sought-astray t = rw t
 
-  -- an unfinished record
-  pub on-rising : endsRise r e ≡ true → searchedOn r w e ≡ hunted r w e
+  -- a record that is searched on
+  pub onward-waits : ready (r .fill) ≡ false → onward r w e ≡ asked (inPhase phase.Searching r) w e
+  onward-waits t = rw t
+
+  pub onward-goes : ready (r .fill) ≡ true → onward r w e ≡ searchedOn r w e
+  onward-goes t = rw t
+
+  pub on-rising : endsRise r e ≡ true → searchedOn r w e ≡ hunted (inPhase phase.Searching r) w e
   unfolding searchedOn
   on-rising t = rw t
 

@@ -169,10 +169,14 @@ soughtAt r w e =
     (hunted (beginsAt (r .mark .start .0) (r .mark .line) r) w e)
     (does (refuses 5 []) (inPhase phase.Astray r) w e)
 
--- an unfinished record is searched on; the search uses the ends recorded so far
+-- A record is searched on; the search uses the ends recorded so far. Where a set ended before the record, it is shown no longer, unless its ends
+-- are refused.
 unfoldable pub searchedOn : Reader → (w e : List ℕ) → Did
 unfolding endsRise hunted
-searchedOn r w e = cond (endsRise r e) (hunted r w e) (does (refuses 11 []) r w e)
+searchedOn r w e = cond (endsRise r e) (hunted (inPhase phase.Searching r) w e) (does (refuses 11 []) r w e)
+
+abbrev pub onward : Reader → (w e : List ℕ) → Did
+onward r w e = cond (ready (r .fill)) (searchedOn r w e) (asked (inPhase phase.Searching r) w e)
 
 -- behind a current record the next one begins where the search stopped, on the line behind its lines
 abbrev pub passed : Reader → Reader
@@ -193,13 +197,14 @@ behind r w e =
 abbrev pub readIn : Phase → Reader → (w e : List ℕ) → Did
 readIn phase.Lead r w e = whenReady led r w e
 readIn phase.Sought r w e = whenReady soughtAt r w e
-readIn phase.Searching r w e = whenReady searchedOn r w e
+readIn phase.Searching r w e = onward r w e
 readIn phase.Current r w e = behind r w e
 readIn phase.Ended r w e = does ends r w e
 readIn phase.Over r w e = does ends r w e
 readIn phase.Window r w e = does (refuses 3 (placed r)) r w e
 readIn phase.Table r w e = does (refuses 4 (placed r)) r w e
 readIn phase.Astray r w e = does (refuses 5 []) r w e
+readIn phase.Ahead r w e = onward r w e
 
 -- "A read call without a report repeats the same ask and changes nothing"; refusals 3 and 4 come before it.
 abbrev pub lasts : Phase → Bool
@@ -212,6 +217,7 @@ lasts phase.Over = false
 lasts phase.Window = true
 lasts phase.Table = true
 lasts phase.Astray = false
+lasts phase.Ahead = false
 
 unfoldable pub readOf : Reader → (w e : List ℕ) → Did
 unfolding sane lentAs led soughtAt searchedOn behind
