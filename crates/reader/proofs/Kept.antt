@@ -78,6 +78,12 @@ unready f s t = go (f .told) (eqb (f .filled) (f .capacity)) refl t
     go false true q no′ = absurd (false≢true (sym no′))
     go false false q no′ = let other = eqb-false (f .filled) (f .capacity) q in ⊎-elim (λ same. absurd (other same)) (λ less. less) (eq-or-lt-of-le fits)
 
+-- a place that is not the end of the filled bytes where that is the end of the input
+pub not-over : (told : Bool) (at filled : ℕ) → told ≡ true → (told && eqb at filled) ≡ false → at ≤ filled → at < filled
+not-over told at filled is t h =
+    let other = eqb-false at filled (sym (ap (λ (u : Bool). u && eqb at filled) is) ∙ t) in
+    ⊎-elim (λ same. absurd (other same)) (λ less. less) (eq-or-lt-of-le h)
+
 -- a said refusal 11
 abbrev pub isState : Said → Bool
 isState (asks p m o) = false
@@ -170,7 +176,7 @@ module _ {own : Bool} (r : Reader) (w e : List ℕ) where
       }
 
   -- the same in another phase
-  kept-phase : Kept own r w e → (p : Phase) → isSearching p ≡ false → (isCurrent p ≡ true → 1 ≤ r .mark .count) → Kept own (inPhase p r) w e
+  pub kept-phase : Kept own r w e → (p : Phase) → isSearching p ≡ false → (isCurrent p ≡ true → 1 ≤ r .mark .count) → Kept own (inPhase p r) w e
   kept-phase k p no′ has =
       record {
         is-good = phase-good r w e (k .is-good) p has;
@@ -297,7 +303,7 @@ module _ {own : Bool} (r : Reader) (w e : List ℕ) (g : Good r w e) (h : Behind
       go (no z) = keeps-moved (omega arith)
 
   -- the end closes a record behind whose `>` the search stopped
-  kept-closed :
+  pub kept-closed :
       r .mark .start .0 < r .mark .search .0 →
       r .mark .count < r .slots →
       Kept own (inPhase phase.Current (reached (r .fill .filled) (r .mark .count + 1) r)) w (set e (r .mark .count) (r .mark .search .0))
@@ -410,14 +416,18 @@ module _ {own : Bool} (r : Reader) (w e : List ℕ) (g : Good r w e) (h : Behind
         ends-behind = λ o. found-rises (h .ends-behind o);
       }
 
+  -- a record that was found has an end, and a search that began behind its `>` stopped there
+  pub found-has-end : found .out .stop ≡ stop.Record → 1 ≤ found .out .count
+  found-has-end is =
+      let marked = subst (Stopped (take (r .fill .filled) w) (r .mark .count) (r .slots) 62 (found .out) (found .ends)) is stops in
+      omega (arith, marked .new)
+
+  pub found-inside : r .mark .start .0 < r .fill .filled → r .mark .start .0 < found .out .at
+  found-inside inside = omega (arith, finds .apart)
+
   keeps-hunted : Keeps own (hunted r w e)
   keeps-hunted = go (r .fill .told && eqb (r .mark .start .0) (r .fill .filled)) refl
     where
-      has-end : found .out .stop ≡ stop.Record → 1 ≤ found .out .count
-      has-end is =
-          let marked = subst (Stopped (take (r .fill .filled) w) (r .mark .count) (r .slots) 62 (found .out) (found .ends)) is stops in
-          omega (arith, marked .new)
-
       go : (t : Bool) → (r .fill .told && eqb (r .mark .start .0) (r .fill .filled)) ≡ t → Keeps own (hunted r w e)
       go true t =
           let both = and-true (r .fill .told) (eqb (r .mark .start .0) (r .fill .filled)) t in
@@ -426,14 +436,10 @@ module _ {own : Bool} (r : Reader) (w e : List ℕ) (g : Good r w e) (h : Behind
       go false t =
           as-done (hunt-goes r w e t found refl)
           (keeps-stopped (reached (found .out .at) (found .out .count) r) w (found .ends)
-          (hunt-good r w e g from refl (found .out) (found .ends) refl) found-behind (found .out .stop) has-end
+          (hunt-good r w e g (found .out) (found .ends) refl) found-behind (found .out .stop) found-has-end
           (λ told.
-          let a = g .is-sane .start-search in
-          let b = g .is-sane .search-filled in
-          let other = eqb-false (r .mark .start .0) (r .fill .filled) (sym (ap (λ (u : Bool). u && eqb (r .mark .start .0) (r .fill .filled)) told) ∙ t) in
-          let inside : r .mark .start .0 < r .fill .filled =
-          ⊎-elim (λ same. absurd (other same)) (λ less. less) (eq-or-lt-of-le (le-trans a b)) in
-          omega (arith, finds .apart)))
+          found-inside
+          (not-over (r .fill .told) (r .mark .start .0) (r .fill .filled) told t (le-trans (g .is-sane .start-search) (g .is-sane .search-filled)))))
 
 -- a record that begins in the filled bytes
 pub keeps-begun : {own : Bool} (r : Reader) (w e : List ℕ) → Good r w e → r .mark .count ≡ 0 → Keeps own (hunted r w e)

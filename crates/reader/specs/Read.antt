@@ -8,6 +8,7 @@ use lib.ListN.{length, getD, take, drop, set}
 use lib.Dec.{eqb, ltb, leb}
 use Rattle.scan.specs.Move.{movedEnds}
 use Rattle.scan.specs.Search.{Recorded, searched, leadAt}
+use Rattle.scan.specs.declared.ends.Searched.{Searched}
 use Rattle.scan.specs.declared.ends.Stop.{Stop}
 use Rattle.scan.specs.declared.ends.Stop.the-variants as stop
 use Rattle.scan.specs.declared.line.Blank.{Blank}
@@ -113,6 +114,10 @@ abbrev pub searches : Reader → (w e : List ℕ) → Recorded
 searches r w e =
     let from = min (max (r .mark .search .0) (r .mark .start .0 + 1)) (r .fill .filled) in
     searched 62 (r .slots) (drop from (take (r .fill .filled) w)) from (r .mark .count) e
+
+-- the promise of such a search
+abbrev pub SearchIs : Reader → (w e : List ℕ) → Searched → (e′ : List ℕ) → Type 0
+SearchIs r w e s e′ = record { out = s; ends = e′ } ≡ searches r w e
 
 -- Where the input has ended and nothing of a record is there, that is the end.
 unfoldable pub hunted : Reader → (w e : List ℕ) → Did

@@ -224,7 +224,7 @@ impl Reader {
     }
 
     // A record begins at a place of the window, on a line.
-    fn begin(self, start: usize, line: u64) -> Reader
+    pub(crate) fn begin(self, start: usize, line: u64) -> Reader
         ensures { λ r. ⌜ r ≡ beginsAt start line self ⌝ }
     {
         let mark = mark_at(start, line);

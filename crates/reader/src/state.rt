@@ -60,6 +60,21 @@ pub struct Next {
     pub answer: Answer,
 }
 
+// What stands behind the current record: a whole record, one that is not whole in the filled bytes or that a read would refuse, the end; or
+// refusal 7 or 11.
+pub enum Sight {
+    Whole(Position),
+    Unfinished,
+    Over,
+    None,
+    State,
+}
+
+pub struct Look {
+    pub reader: Reader,
+    pub sight: Sight,
+}
+
 // What a setup comes to; it is refused with 1.
 pub enum Setup {
     Made(Reader),
