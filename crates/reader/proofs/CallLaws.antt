@@ -34,7 +34,7 @@ pub same-reader :
 same-reader slots p a b = λ i. record { fill = a i; mark = b i; slots = slots; phase = p }
 
 -- the phases that are not `Current`, by their places in the declaration
-pub not-current : (p : Phase) → OneOf (0 ∷ 1 ∷ 2 ∷ 4 ∷ 5 ∷ 6 ∷ 7 ∷ 8 ∷ []) (tagOf Phase·type p) → false ≡ isCurrent p
+pub not-current : (p : Phase) → OneOf (0 ∷ 1 ∷ 2 ∷ 4 ∷ 5 ∷ 6 ∷ 7 ∷ 8 ∷ 9 ∷ []) (tagOf Phase·type p) → false ≡ isCurrent p
 not-current phase.Lead k = refl
 not-current phase.Sought k = refl
 not-current phase.Searching k = refl
@@ -43,6 +43,7 @@ not-current phase.Over k = refl
 not-current phase.Window k = refl
 not-current phase.Table k = refl
 not-current phase.Astray k = refl
+not-current phase.Ahead k = refl
 not-current phase.Current k =
     absurd
     (⊎-elim (λ e. omega arith)
@@ -50,7 +51,8 @@ not-current phase.Current k =
     (⊎-elim (λ e. omega arith)
     (⊎-elim (λ e. omega arith)
     (⊎-elim (λ e. omega arith)
-    (⊎-elim (λ e. omega arith) (⊎-elim (λ e. omega arith) (λ e. omega arith)))))))
+    (⊎-elim (λ e. omega arith)
+    (⊎-elim (λ e. omega arith) (⊎-elim (λ e. omega arith) (λ e. omega arith))))))))
     k)
 
 -- a setup that is not refused

@@ -29,10 +29,10 @@ use Rattle.reader.specs.declared.state.Mark.{Mark}
 use Rattle.reader.specs.declared.state.Phase.{Phase}
 use Rattle.reader.specs.declared.state.Phase.the-variants as phase
 use Rattle.reader.specs.State.{Sane, Good, sane, lentAs, isCurrent, withFill, withMark, inPhase, markAt, endsRise}
-use Rattle.reader.specs.Read.{Said, asks, gives, ends, refuses, Did, asked, reached, makesRoom, closed, stopped, searches, hunted, beginsAt, passed, whenReady, behind, soughtAt, searchedOn, led, ledTo, leadDropped, lasts, readIn, readOf}
+use Rattle.reader.specs.Read.{Said, asks, gives, ends, refuses, Did, asked, reached, makesRoom, closed, stopped, searches, hunted, beginsAt, passed, whenReady, behind, soughtAt, searchedOn, onward, led, ledTo, leadDropped, lasts, readIn, readOf}
 use Rattle.reader.proofs.RiseLaws.{rises-higher, rises-moved, rises-none, rises-rising, length-moved-down, length-moved-ends, moved-taken}
 use Rattle.reader.proofs.Sanity.{and-true, sane-true}
-use Rattle.reader.proofs.ReadLaws.{closed-full, closed-more, room-moves, room-wider, room-none, hunt-over, hunt-goes, hunt-good, filled-told, filled-not, begins-good, waits, is-ready, behind-ended, behind-next, sought-mark, sought-astray, on-rising, on-falling, rise-test, led-by, led-on, led-mark, led-refused, lead-over, lead-asks, lead-in, lead-begins, passed-good, lent-true, read-repeats, read-goes}
+use Rattle.reader.proofs.ReadLaws.{closed-full, closed-more, room-moves, room-wider, room-none, hunt-over, hunt-goes, hunt-good, phase-good, searching-good, filled-told, filled-not, begins-good, waits, is-ready, behind-ended, behind-next, sought-mark, sought-astray, onward-waits, onward-goes, on-rising, on-falling, rise-test, led-by, led-on, led-mark, led-refused, lead-over, lead-asks, lead-in, lead-begins, passed-good, lent-true, read-repeats, read-goes}
 
 abbrev pub isSearching : Phase → Bool
 isSearching phase.Lead = false
@@ -44,6 +44,7 @@ isSearching phase.Over = false
 isSearching phase.Window = false
 isSearching phase.Table = false
 isSearching phase.Astray = false
+isSearching phase.Ahead = true
 
 -- the ends of a record's lines rise strictly behind its `>`, each below hi
 abbrev pub EndsBelow : (hi : ℕ) → Mark → (e : List ℕ) → Type 0
@@ -76,6 +77,12 @@ unready f s t = go (f .told) (eqb (f .filled) (f .capacity)) refl t
     go true u q no′ = absurd (false≢true (sym no′))
     go false true q no′ = absurd (false≢true (sym no′))
     go false false q no′ = let other = eqb-false (f .filled) (f .capacity) q in ⊎-elim (λ same. absurd (other same)) (λ less. less) (eq-or-lt-of-le fits)
+
+-- a place that is not the end of the filled bytes where that is the end of the input
+pub not-over : (told : Bool) (at filled : ℕ) → told ≡ true → (told && eqb at filled) ≡ false → at ≤ filled → at < filled
+not-over told at filled is t h =
+    let other = eqb-false at filled (sym (ap (λ (u : Bool). u && eqb at filled) is) ∙ t) in
+    ⊎-elim (λ same. absurd (other same)) (λ less. less) (eq-or-lt-of-le h)
 
 -- a said refusal 11
 abbrev pub isState : Said → Bool
@@ -169,28 +176,10 @@ module _ {own : Bool} (r : Reader) (w e : List ℕ) where
       }
 
   -- the same in another phase
-  kept-phase : Kept own r w e → (p : Phase) → isSearching p ≡ false → (isCurrent p ≡ true → 1 ≤ r .mark .count) → Kept own (inPhase p r) w e
+  pub kept-phase : Kept own r w e → (p : Phase) → isSearching p ≡ false → (isCurrent p ≡ true → 1 ≤ r .mark .count) → Kept own (inPhase p r) w e
   kept-phase k p no′ has =
-      let g = k .is-good in
-      let m = g .is-sane in
       record {
-        is-good =
-            record {
-              is-sane =
-                  record {
-                    capacity-least = m .capacity-least;
-                    window-sound = m .window-sound;
-                    start-search = m .start-search;
-                    search-filled = m .search-filled;
-                    count-slots = m .count-slots;
-                    count-search = m .count-search;
-                    current-has-end = has;
-                    line-least = m .line-least;
-                    line-most = m .line-most;
-                  };
-              window-lent = g .window-lent;
-              table-lent = g .table-lent;
-            };
+        is-good = phase-good r w e (k .is-good) p has;
         ends-rise = k .ends-rise;
         is-behind = λ s. absurd (false≢true (sym no′ ∙ s));
       }
@@ -314,7 +303,7 @@ module _ {own : Bool} (r : Reader) (w e : List ℕ) (g : Good r w e) (h : Behind
       go (no z) = keeps-moved (omega arith)
 
   -- the end closes a record behind whose `>` the search stopped
-  kept-closed :
+  pub kept-closed :
       r .mark .start .0 < r .mark .search .0 →
       r .mark .count < r .slots →
       Kept own (inPhase phase.Current (reached (r .fill .filled) (r .mark .count + 1) r)) w (set e (r .mark .count) (r .mark .search .0))
@@ -427,14 +416,18 @@ module _ {own : Bool} (r : Reader) (w e : List ℕ) (g : Good r w e) (h : Behind
         ends-behind = λ o. found-rises (h .ends-behind o);
       }
 
+  -- a record that was found has an end, and a search that began behind its `>` stopped there
+  pub found-has-end : found .out .stop ≡ stop.Record → 1 ≤ found .out .count
+  found-has-end is =
+      let marked = subst (Stopped (take (r .fill .filled) w) (r .mark .count) (r .slots) 62 (found .out) (found .ends)) is stops in
+      omega (arith, marked .new)
+
+  pub found-inside : r .mark .start .0 < r .fill .filled → r .mark .start .0 < found .out .at
+  found-inside inside = omega (arith, finds .apart)
+
   keeps-hunted : Keeps own (hunted r w e)
   keeps-hunted = go (r .fill .told && eqb (r .mark .start .0) (r .fill .filled)) refl
     where
-      has-end : found .out .stop ≡ stop.Record → 1 ≤ found .out .count
-      has-end is =
-          let marked = subst (Stopped (take (r .fill .filled) w) (r .mark .count) (r .slots) 62 (found .out) (found .ends)) is stops in
-          omega (arith, marked .new)
-
       go : (t : Bool) → (r .fill .told && eqb (r .mark .start .0) (r .fill .filled)) ≡ t → Keeps own (hunted r w e)
       go true t =
           let both = and-true (r .fill .told) (eqb (r .mark .start .0) (r .fill .filled)) t in
@@ -443,14 +436,10 @@ module _ {own : Bool} (r : Reader) (w e : List ℕ) (g : Good r w e) (h : Behind
       go false t =
           as-done (hunt-goes r w e t found refl)
           (keeps-stopped (reached (found .out .at) (found .out .count) r) w (found .ends)
-          (hunt-good r w e g from refl (found .out) (found .ends) refl) found-behind (found .out .stop) has-end
+          (hunt-good r w e g (found .out) (found .ends) refl) found-behind (found .out .stop) found-has-end
           (λ told.
-          let a = g .is-sane .start-search in
-          let b = g .is-sane .search-filled in
-          let other = eqb-false (r .mark .start .0) (r .fill .filled) (sym (ap (λ (u : Bool). u && eqb (r .mark .start .0) (r .fill .filled)) told) ∙ t) in
-          let inside : r .mark .start .0 < r .fill .filled =
-          ⊎-elim (λ same. absurd (other same)) (λ less. less) (eq-or-lt-of-le (le-trans a b)) in
-          omega (arith, finds .apart)))
+          found-inside
+          (not-over (r .fill .told) (r .mark .start .0) (r .fill .filled) told t (le-trans (g .is-sane .start-search) (g .is-sane .search-filled)))))
 
 -- a record that begins in the filled bytes
 pub keeps-begun : {own : Bool} (r : Reader) (w e : List ℕ) → Good r w e → r .mark .count ≡ 0 → Keeps own (hunted r w e)
@@ -556,22 +545,32 @@ module _ {own : Bool} (r : Reader) (w e : List ℕ) (k : Kept own r w e) where
   keeps-searched h = go (endsRise r e) refl
     where
       go : (t : Bool) → endsRise r e ≡ t → Keeps own (searchedOn r w e)
-      go true t = as-done (on-rising r w e t) (keeps-hunted r w e g h)
+      go true t = as-done (on-rising r w e t) (keeps-hunted (inPhase phase.Searching r) w e (searching-good r w e g) h)
       go false t =
           as-done (on-falling r w e t)
           (record { is-kept = k; not-state = λ o. absurd (false≢true (sym t ∙ kept-rising o)) })
 
+  keeps-onward : Behind own (r .mark) e → Keeps own (onward r w e)
+  keeps-onward h = go (ready (r .fill)) refl
+    where
+      go : (t : Bool) → ready (r .fill) ≡ t → Keeps own (onward r w e)
+      go true t = as-done (onward-goes r w e t) (keeps-searched h)
+      go false t =
+          as-done (onward-waits r w e t)
+          (keeps-asked (inPhase phase.Searching r) w e (kept-searched (inPhase phase.Searching r) w e (searching-good r w e g) h)
+          (unready (r .fill) (g .is-sane .window-sound) t))
+
   keeps-in : (p : Phase) → r .phase ≡ p → Keeps own (readIn p r w e)
   keeps-in phase.Lead is = keeps-ready r w e led k (keeps-led (ap isCurrent is))
   keeps-in phase.Sought is = keeps-ready r w e soughtAt k (λ full. keeps-sought)
-  keeps-in phase.Searching is =
-      keeps-ready r w e searchedOn k (λ full. keeps-searched (k .is-behind (ap isSearching is)))
+  keeps-in phase.Searching is = keeps-onward (k .is-behind (ap isSearching is))
   keeps-in phase.Current is = keeps-behind
   keeps-in phase.Ended is = record { is-kept = k; not-state = λ o. refl }
   keeps-in phase.Over is = record { is-kept = k; not-state = λ o. refl }
   keeps-in phase.Window is = record { is-kept = k; not-state = λ o. refl }
   keeps-in phase.Table is = record { is-kept = k; not-state = λ o. refl }
   keeps-in phase.Astray is = record { is-kept = k; not-state = λ o. refl }
+  keeps-in phase.Ahead is = keeps-onward (k .is-behind (ap isSearching is))
 
   -- what refusal 11 tests
   pub kept-sane : sane r ≡ true

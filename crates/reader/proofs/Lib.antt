@@ -4,8 +4,10 @@ pub mod Sanity
 pub mod Rising
 pub mod RiseLaws
 pub mod ReadLaws
+pub mod LookLaws
 pub mod CallLaws
 pub mod Made
 pub mod Kept
+pub mod LookKept
 pub mod NeverState
 pub mod Unique

@@ -13,16 +13,19 @@ use Rattle.window.specs.declared.fill.Fill.{Fill}
 use Rattle.reader.specs.declared.state.Phase.{Phase}
 use Rattle.reader.specs.declared.state.Phase.the-variants as phase
 use Rattle.reader.specs.declared.state.Reader.{Reader}
-use Rattle.reader.specs.State.{Sane, sane, isCurrent, endsRise}
+use Rattle.reader.specs.State.{Sane, sane, lentAs, isCurrent, endsRise}
 use Rattle.reader.specs.Read.{Did, refuses, readOf}
+use Rattle.reader.specs.Look.{Looked, denied, lookOf, putBackOf}
 use Rattle.reader.specs.Calls.{Left, done, setupRefused, setupOf, made, misplaced, reportOf, tookOver, seekOf, soughtIn, soughtOut, Place, at, nowhere, unknown, shownIn, placeOf, Held, held, missing, currentOf}
-use Rattle.reader.proofs.ReadLaws.{read-other-window, read-other-table}
+use Rattle.reader.proofs.ReadLaws.{unlent-window, unlent-table, read-unlent}
+use Rattle.reader.proofs.LookLaws.{look-unlent}
 use Rattle.reader.proofs.CallLaws.{test-fitting, setup-made, report-sane, seek-misplaced, seek-in, seek-out, place-shown, current-none, current-held}
 use Rattle.reader.proofs.Made.{sane-made, sane-report, sane-seek}
 use Rattle.reader.proofs.Kept.{Kept, kept-begun, kept-sane, kept-rising, kept-read, read-not-state}
+use Rattle.reader.proofs.LookKept.{kept-look, look-not-state, kept-put-back}
 
--- A reader with its window and its table as calls left them: set up over them, then read, told of bytes, and sought, in any order and by any
--- arguments, a read over a window or a table of another length too. Between calls the caller may put any bytes into the window, and anything
+-- A reader with its window and its table as calls left them: set up over them, then read, told of bytes, and sought, its next record looked at and
+-- its current one put back, in any order and by any arguments, a read or a look over a window or a table of another length too. Between calls the caller may put any bytes into the window, and anything
 -- into the table where that is not the reader's own.
 pub data Calls (own : Bool) : Reader → (w e : List ℕ) → Type 0 where
   by-setup : (capacity : ℕ) (p : Policy) (r : Reader) (w e : List ℕ) → setupOf capacity p (length w) (length e) ≡ some r → Calls own r w e
@@ -36,6 +39,13 @@ pub data Calls (own : Bool) : Reader → (w e : List ℕ) → Type 0 where
   by-alter : own ≡ false → (r : Reader) (w e e′ : List ℕ) → length e′ ≡ length e → Calls own r w e → Calls own r w e′
   by-report : (count : ℕ) (r : Reader) (w e : List ℕ) → Calls own r w e → Calls own (reportOf count r .reader) w e
   by-seek : (line byte : ℕ) (r : Reader) (w e : List ℕ) → Calls own r w e → Calls own (seekOf line byte r .reader) w e
+  by-look : (r : Reader) (w e : List ℕ) → Calls own r w e → Calls own (lookOf r w e .reader) w (lookOf r w e .table)
+  by-mislook :
+      (r : Reader) (w e w′ e′ : List ℕ) →
+      (length w′ ≡ length w → length e′ ≡ length e → ⊥) →
+      Calls own r w e →
+      Calls own (lookOf r w′ e′ .reader) w e
+  by-put-back : (r : Reader) (w e : List ℕ) → Calls own r w e → Calls own (putBackOf r) w e
 
 -- The reader passes the test, so no call over the lent lengths answers 11. A read also tests the ends, as views of the current record do: these
 -- rise in a table that is the reader's own.
@@ -46,6 +56,7 @@ pub record NeverState (own : Bool) (r : Reader) (w e : List ℕ) : Type 0 where
   pub in-seek : (line byte : ℕ) → seekOf line byte r .refusal ≡ some 11 → ⊥
   pub in-position : placeOf r ≡ unknown 11 → ⊥
   pub in-current : currentOf (length w) (length e) r ≡ missing 11 → ⊥
+  pub in-look : lookOf r w e .seen ≡ denied 11 → ⊥
   pub in-ends : own ≡ true → endsRise r e ≡ true
 
 -- a reader that was set up
@@ -125,18 +136,23 @@ module _ {own : Bool} (r : Reader) (w e : List ℕ) (k : Kept own r w e) where
         is-behind = λ s. record { count-behind = k .is-behind s .count-behind; ends-behind = λ q. absurd (false≢true (sym o ∙ q)) };
       }
 
-  -- a read over other lengths changes nothing
-  pub kept-misread : (w′ e′ : List ℕ) → (length w′ ≡ length w → length e′ ≡ length e → ⊥) → Kept own (readOf r w′ e′ .reader) w e
-  kept-misread w′ e′ other = go (eqb (r .fill .lent) (length w′)) refl
+  -- a read or a look over other lengths changes nothing
+  unlent : (w′ e′ : List ℕ) → (length w′ ≡ length w → length e′ ≡ length e → ⊥) → lentAs r (length w′) (length e′) ≡ false
+  unlent w′ e′ other = go (eqb (r .fill .lent) (length w′)) refl
     where
-      by : (d : Did) → readOf r w′ e′ ≡ d → d .reader ≡ r → Kept own (readOf r w′ e′ .reader) w e
-      by d is same = subst (λ (o : Reader). Kept own o w e) (sym (ap (λ (x : Did). x .reader) is ∙ same)) k
-
-      go : (t : Bool) → eqb (r .fill .lent) (length w′) ≡ t → Kept own (readOf r w′ e′ .reader) w e
-      go false t = by _ (read-other-window r w′ e′ (eqb-false (r .fill .lent) (length w′) t)) refl
+      go : (t : Bool) → eqb (r .fill .lent) (length w′) ≡ t → lentAs r (length w′) (length e′) ≡ false
+      go false t = unlent-window r w′ e′ (eqb-false (r .fill .lent) (length w′) t)
       go true t =
           let same-window = sym (eqb-true (r .fill .lent) (length w′) t) ∙ k .is-good .window-lent in
-          by _ (read-other-table r w′ e′ (λ is. other same-window (sym is ∙ k .is-good .table-lent))) refl
+          unlent-table r w′ e′ (λ is. other same-window (sym is ∙ k .is-good .table-lent))
+
+  pub kept-misread : (w′ e′ : List ℕ) → (length w′ ≡ length w → length e′ ≡ length e → ⊥) → Kept own (readOf r w′ e′ .reader) w e
+  kept-misread w′ e′ other =
+      subst (λ (o : Reader). Kept own o w e) (sym (ap (λ (x : Did). x .reader) (read-unlent r w′ e′ (unlent w′ e′ other)))) k
+
+  kept-mislook : (w′ e′ : List ℕ) → (length w′ ≡ length w → length e′ ≡ length e → ⊥) → Kept own (lookOf r w′ e′ .reader) w e
+  kept-mislook w′ e′ other =
+      subst (λ (o : Reader). Kept own o w e) (sym (ap (λ (x : Looked). x .reader) (look-unlent r w′ e′ (unlent w′ e′ other)))) k
 
   leaves-report : (count : ℕ) → Leaves own w e (reportOf count r)
   leaves-report count = subst (Leaves own w e) (sym taken) (go (reported count (r .fill)) refl)
@@ -204,6 +220,7 @@ module _ {own : Bool} (r : Reader) (w e : List ℕ) (k : Kept own r w e) where
       go phase.Window = refl
       go phase.Table = refl
       go phase.Astray = refl
+      go phase.Ahead = refl
 
   present : isMissing (currentOf (length w) (length e) r) ≡ false
   present = go (isCurrent (r .phase)) refl
@@ -227,6 +244,7 @@ module _ {own : Bool} (r : Reader) (w e : List ℕ) (k : Kept own r w e) where
         in-seek = λ line byte is. false≢true (sym (leaves-seek line byte .not-state) ∙ ap isRefused is);
         in-position = λ is. false≢true (sym known ∙ ap isUnknown is);
         in-current = λ is. false≢true (sym present ∙ ap isMissing is);
+        in-look = look-not-state r w e k;
         in-ends = kept-rising r w e k;
       }
 
@@ -239,6 +257,9 @@ calls-kept (by-refill r w e w′ same c) = kept-refilled r w e (calls-kept c) w�
 calls-kept (by-alter o r w e e′ same c) = kept-altered r w e (calls-kept c) o e′ same
 calls-kept (by-report count r w e c) = kept-report r w e (calls-kept c) count
 calls-kept (by-seek line byte r w e c) = kept-seek r w e (calls-kept c) line byte
+calls-kept (by-look r w e c) = kept-look r w e (calls-kept c)
+calls-kept (by-mislook r w e w′ e′ other c) = kept-mislook r w e (calls-kept c) w′ e′ other
+calls-kept (by-put-back r w e c) = kept-put-back r w e (calls-kept c)
 
 -- so none refuses the state
 pub never-state : {own : Bool} {r : Reader} {w e : List ℕ} → Calls own r w e → NeverState own r w e

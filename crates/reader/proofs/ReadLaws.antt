@@ -27,9 +27,10 @@ use Rattle.window.proofs.Laws.{input-fits-word, sound-slid}
 use Rattle.reader.specs.declared.state.Reader.{Reader}
 use Rattle.reader.specs.declared.state.Mark.{Mark}
 use Rattle.reader.specs.declared.state.Answer.the-variants as answer
+use Rattle.reader.specs.declared.state.Phase.{Phase}
 use Rattle.reader.specs.declared.state.Phase.the-variants as phase
-use Rattle.reader.specs.State.{Sane, Good, sane, lentAs, withFill, withMark, inPhase, markAt, rising, endsRise}
-use Rattle.reader.specs.Read.{asks, ends, refuses, saidBy, Did, does, askFor, asked, given, tooLong, tooMany, reached, movedToFront, grows, makesRoom, closed, stopped, searches, hunted, beginsAt, passed, whenReady, behind, soughtAt, searchedOn, led, ledTo, leadOn, leadFound, leadDropped, LeadIn, lasts, readIn, readOf}
+use Rattle.reader.specs.State.{Sane, Good, sane, lentAs, isCurrent, withFill, withMark, inPhase, markAt, rising, endsRise}
+use Rattle.reader.specs.Read.{asks, ends, refuses, saidBy, Did, does, askFor, asked, given, tooLong, tooMany, reached, movedToFront, grows, makesRoom, closed, stopped, searches, SearchIs, hunted, beginsAt, passed, whenReady, behind, soughtAt, searchedOn, onward, led, ledTo, leadOn, leadFound, leadDropped, LeadIn, lasts, readIn, readOf}
 
 -- an ask that is opened
 pub ask-opens : (r : Reader) (a : Ask) (f : Fill) → a ≡ askOf (r .fill) → f ≡ asking true (r .fill) → r .fill .base .0 + r .fill .filled ≤ most
@@ -111,9 +112,9 @@ wider-fits r s f p = go (widenedTo (r .fill)) p
     go (some c) q = rw (Option·some-injective f (ofCapacity c (r .fill)) q) (s .window-sound .input-fits)
 
 -- a search keeps what refusal 11 asks
-pub hunt-good : (r : Reader) (w e : List ℕ) → Good r w e → (from : ℕ) → from ≡ min (max (r .mark .search .0) (r .mark .start .0 + 1)) (r .fill .filled)
-    → (s : Searched) (x : List ℕ) → Search (take (r .fill .filled) w) from (r .mark .count) (r .slots) 62 e s x → Good (reached (s .at) (s .count) r) w x
-hunt-good r w e g from p s x is =
+pub hunt-good : (r : Reader) (w e : List ℕ) → Good r w e → (s : Searched) (x : List ℕ) → SearchIs r w e s x → Good (reached (s .at) (s .count) r) w x
+hunt-good r w e g s x is =
+    let from = min (max (r .mark .search .0) (r .mark .start .0 + 1)) (r .fill .filled) in
     let m = g .is-sane in
     let v = m .window-sound in
     let l : length (take (r .fill .filled) w) ≡ r .fill .filled = length-take-le (r .fill .filled) w (omega (arith, v .filled-fits, v .capacity-fits, g .window-lent)) in
@@ -140,6 +141,30 @@ hunt-good r w e g from p s x is =
       window-lent = g .window-lent;
       table-lent = g .table-lent ∙ sym (f .same-length);
     }
+
+-- the same in another phase
+pub phase-good : (r : Reader) (w e : List ℕ) → Good r w e → (p : Phase) → (isCurrent p ≡ true → 1 ≤ r .mark .count) → Good (inPhase p r) w e
+phase-good r w e g p has =
+    let m = g .is-sane in
+    record {
+      is-sane =
+          record {
+            capacity-least = m .capacity-least;
+            window-sound = m .window-sound;
+            start-search = m .start-search;
+            search-filled = m .search-filled;
+            count-slots = m .count-slots;
+            count-search = m .count-search;
+            current-has-end = has;
+            line-least = m .line-least;
+            line-most = m .line-most;
+          };
+      window-lent = g .window-lent;
+      table-lent = g .table-lent;
+    }
+
+pub searching-good : (r : Reader) (w e : List ℕ) → Good r w e → Good (inPhase phase.Searching r) w e
+searching-good r w e g = phase-good r w e g phase.Searching (λ c. absurd (false≢true c))
 
 -- a record that begins in the filled bytes, on a line within its bounds
 pub begins-good : (r : Reader) (w e : List ℕ) → Good r w e → (start line : ℕ) → start ≤ r .fill .filled → 1 ≤ line → line ≤ r .fill .base .0 + start + 1
@@ -190,8 +215,14 @@ module _ (r : Reader) (w e : List ℕ) where
   unfolding soughtAt
   sought-astray t = rw t
 
-  -- an unfinished record
-  pub on-rising : endsRise r e ≡ true → searchedOn r w e ≡ hunted r w e
+  -- a record that is searched on
+  pub onward-waits : ready (r .fill) ≡ false → onward r w e ≡ asked (inPhase phase.Searching r) w e
+  onward-waits t = rw t
+
+  pub onward-goes : ready (r .fill) ≡ true → onward r w e ≡ searchedOn r w e
+  onward-goes t = rw t
+
+  pub on-rising : endsRise r e ≡ true → searchedOn r w e ≡ hunted (inPhase phase.Searching r) w e
   unfolding searchedOn
   on-rising t = rw t
 
@@ -256,8 +287,8 @@ neither false u e = refl
 
 -- a search from the place that the definition names
 pub found-from : (r : Reader) (w e : List ℕ) (from : ℕ) → from ≡ min (max (r .mark .search .0) (r .mark .start .0 + 1)) (r .fill .filled)
-    → (s : Recorded) → s ≡ searched 62 (r .slots) (drop from (take (r .fill .filled) w)) from (r .mark .count) e → s ≡ searches r w e
-found-from r w e from p s q = q ∙ ap (λ (n : ℕ). searched 62 (r .slots) (drop n (take (r .fill .filled) w)) n (r .mark .count) e) p
+    → (s : Searched) (x : List ℕ) → Search (take (r .fill .filled) w) from (r .mark .count) (r .slots) 62 e s x → SearchIs r w e s x
+found-from r w e from p s x q = q ∙ ap (λ (n : ℕ). searched 62 (r .slots) (drop n (take (r .fill .filled) w)) n (r .mark .count) e) p
 
 -- the lead dropped as the code drops it
 pub lead-with : (r : Reader) (w e : List ℕ) (b : Blank) → r .fill .told ≡ false → {f : Fill} {m : Mark} {w′ : List ℕ}
@@ -302,6 +333,14 @@ module _ (r : Reader) (w e : List ℕ) where
   unfolding lentAs
   lent-true p q = rw (eq-eqb (r .fill .lent) (length w) p, eq-eqb (r .slots) (length e) q)
 
+  pub unlent-window : (r .fill .lent ≡ length w → ⊥) → lentAs r (length w) (length e) ≡ false
+  unfolding lentAs
+  unlent-window h = neither (eqb (r .fill .lent) (length w)) (eqb (r .slots) (length e)) (inl (ne-eqb _ _ h))
+
+  pub unlent-table : (r .slots ≡ length e → ⊥) → lentAs r (length w) (length e) ≡ false
+  unfolding lentAs
+  unlent-table h = neither (eqb (r .fill .lent) (length w)) (eqb (r .slots) (length e)) (inr (ne-eqb _ _ h))
+
   refused-state : (sane r && lentAs r (length w) (length e)) ≡ false → readOf r w e ≡ does (refuses 11 []) r w e
   unfolding readOf
   refused-state t = rw t
@@ -309,15 +348,8 @@ module _ (r : Reader) (w e : List ℕ) where
   pub read-insane : sane r ≡ false → readOf r w e ≡ does (refuses 11 []) r w e
   read-insane t = refused-state (neither (sane r) (lentAs r (length w) (length e)) (inl t))
 
-  pub read-other-window : (r .fill .lent ≡ length w → ⊥) → readOf r w e ≡ does (refuses 11 []) r w e
-  unfolding lentAs
-  read-other-window h =
-      refused-state (neither (sane r) (lentAs r (length w) (length e)) (inr (neither (eqb (r .fill .lent) (length w)) (eqb (r .slots) (length e)) (inl (ne-eqb _ _ h)))))
-
-  pub read-other-table : (r .slots ≡ length e → ⊥) → readOf r w e ≡ does (refuses 11 []) r w e
-  unfolding lentAs
-  read-other-table h =
-      refused-state (neither (sane r) (lentAs r (length w) (length e)) (inr (neither (eqb (r .fill .lent) (length w)) (eqb (r .slots) (length e)) (inr (ne-eqb _ _ h)))))
+  pub read-unlent : lentAs r (length w) (length e) ≡ false → readOf r w e ≡ does (refuses 11 []) r w e
+  read-unlent t = refused-state (neither (sane r) (lentAs r (length w) (length e)) (inr t))
 
   module _ (t : sane r ≡ true) (u : lentAs r (length w) (length e) ≡ true) where
     pub read-repeats : lasts (r .phase) ≡ false → r .fill .asking ≡ true → readOf r w e ≡ does (askFor r) r w e

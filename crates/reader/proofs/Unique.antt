@@ -22,6 +22,9 @@ use Rattle.reader.specs.declared.state.Current.the-variants as current
 use Rattle.reader.specs.declared.state.Answer.{Answer}
 use Rattle.reader.specs.declared.state.Answer.the-variants as answer
 use Rattle.reader.specs.declared.state.Next.{Next}
+use Rattle.reader.specs.declared.state.Look.{Look}
+use Rattle.reader.specs.declared.state.Sight.{Sight}
+use Rattle.reader.specs.declared.state.Sight.the-variants as sight
 use Rattle.reader.specs.Calls.{
   madeBy,
   NewIs,
@@ -43,6 +46,7 @@ use Rattle.reader.specs.Calls.{
   CurrentIs,
 }
 use Rattle.reader.specs.Read.{Said, asks, gives, ends, refuses, saidBy, Did, NextIs}
+use Rattle.reader.specs.Look.{Seen, whole, unfinished, over, denied, seenBy, Looked, LookIs, PutBackIs}
 
 -- An answer that can be read off what it says is known by that.
 known-by : {A B : Type 0} (says : A → B) (back : B → A) → ((a : A) → back (says a) ≡ a) → {x : B} {r s : A} → says r ≡ x → says s ≡ x → r ≡ s
@@ -146,3 +150,31 @@ next-unique reader w e r s w₁ w₂ e₁ e₂ p q =
       ap (λ (d : Did). d .window) same,
       ap (λ (d : Did). d .table) same,
     )
+
+abbrev sight-back : Seen → Sight
+sight-back (whole line byte) = sight.Whole (position-at line byte)
+sight-back unfinished = sight.Unfinished
+sight-back over = sight.Over
+sight-back (denied n) = cond (eqb n 7) sight.None sight.State
+
+sight-is : (s : Sight) → sight-back (seenBy s) ≡ s
+sight-is (sight.Whole p) = refl
+sight-is sight.Unfinished = refl
+sight-is sight.Over = refl
+sight-is sight.None = refl
+sight-is sight.State = refl
+
+pub look-unique :
+    (reader : Reader) (w e : List ℕ) (r s : Look) (e₁ e₂ : List ℕ) →
+    LookIs reader w e r e₁ →
+    LookIs reader w e s e₂ →
+    (r ≡ s) × (e₁ ≡ e₂)
+look-unique reader w e r s e₁ e₂ p q =
+    let seen = known-by (λ (a : Sight). seenBy a) sight-back sight-is (ap (λ (d : Looked). d .seen) p) (ap (λ (d : Looked). d .seen) q) in
+    let same = p ∙ sym q in (
+      λ i. record { reader = same i .reader; sight = seen i },
+      ap (λ (d : Looked). d .table) same,
+    )
+
+pub put-back-unique : (reader r s : Reader) → PutBackIs reader r → PutBackIs reader s → r ≡ s
+put-back-unique reader r s p q = p ∙ sym q

@@ -100,7 +100,7 @@ soughtBy (sought.State r) = refusedBy 11 r
 abbrev pub SeekIs : Position → Reader → Sought → Type 0
 SeekIs p r s = soughtBy s ≡ seekOf (p .line) (p .byte .0) r
 
--- `position` gives the current or refused record; after the end, the last record given; none else. Refused with 11 in a state that 11 refuses.
+-- `position` gives the current or refused record; after the end, the last record given; after a set, the next record; none else. Refused with 11 in a state that 11 refuses.
 pub data Place : Type 0 where
   at : (line byte : ℕ) → Place
   nowhere : Place
@@ -116,6 +116,7 @@ shownIn phase.Over r = nowhere
 shownIn phase.Window r = at (r .mark .line) (byteOf r)
 shownIn phase.Table r = at (r .mark .line) (byteOf r)
 shownIn phase.Astray r = nowhere
+shownIn phase.Ahead r = at (r .mark .line) (byteOf r)
 
 unfoldable pub placeOf : Reader → Place
 unfolding sane

@@ -8,6 +8,7 @@ use lib.ListN.{length, getD, take, drop, set}
 use lib.Dec.{eqb, ltb, leb}
 use Rattle.scan.specs.Move.{movedEnds}
 use Rattle.scan.specs.Search.{Recorded, searched, leadAt}
+use Rattle.scan.specs.declared.ends.Searched.{Searched}
 use Rattle.scan.specs.declared.ends.Stop.{Stop}
 use Rattle.scan.specs.declared.ends.Stop.the-variants as stop
 use Rattle.scan.specs.declared.line.Blank.{Blank}
@@ -114,6 +115,10 @@ searches r w e =
     let from = min (max (r .mark .search .0) (r .mark .start .0 + 1)) (r .fill .filled) in
     searched 62 (r .slots) (drop from (take (r .fill .filled) w)) from (r .mark .count) e
 
+-- the promise of such a search
+abbrev pub SearchIs : Reader → (w e : List ℕ) → Searched → (e′ : List ℕ) → Type 0
+SearchIs r w e s e′ = record { out = s; ends = e′ } ≡ searches r w e
+
 -- Where the input has ended and nothing of a record is there, that is the end.
 unfoldable pub hunted : Reader → (w e : List ℕ) → Did
 unfolding searched closed makesRoom
@@ -169,10 +174,14 @@ soughtAt r w e =
     (hunted (beginsAt (r .mark .start .0) (r .mark .line) r) w e)
     (does (refuses 5 []) (inPhase phase.Astray r) w e)
 
--- an unfinished record is searched on; the search uses the ends recorded so far
+-- A record is searched on; the search uses the ends recorded so far. Where a set ended before the record, it is shown no longer, unless its ends
+-- are refused.
 unfoldable pub searchedOn : Reader → (w e : List ℕ) → Did
 unfolding endsRise hunted
-searchedOn r w e = cond (endsRise r e) (hunted r w e) (does (refuses 11 []) r w e)
+searchedOn r w e = cond (endsRise r e) (hunted (inPhase phase.Searching r) w e) (does (refuses 11 []) r w e)
+
+abbrev pub onward : Reader → (w e : List ℕ) → Did
+onward r w e = cond (ready (r .fill)) (searchedOn r w e) (asked (inPhase phase.Searching r) w e)
 
 -- behind a current record the next one begins where the search stopped, on the line behind its lines
 abbrev pub passed : Reader → Reader
@@ -193,13 +202,14 @@ behind r w e =
 abbrev pub readIn : Phase → Reader → (w e : List ℕ) → Did
 readIn phase.Lead r w e = whenReady led r w e
 readIn phase.Sought r w e = whenReady soughtAt r w e
-readIn phase.Searching r w e = whenReady searchedOn r w e
+readIn phase.Searching r w e = onward r w e
 readIn phase.Current r w e = behind r w e
 readIn phase.Ended r w e = does ends r w e
 readIn phase.Over r w e = does ends r w e
 readIn phase.Window r w e = does (refuses 3 (placed r)) r w e
 readIn phase.Table r w e = does (refuses 4 (placed r)) r w e
 readIn phase.Astray r w e = does (refuses 5 []) r w e
+readIn phase.Ahead r w e = onward r w e
 
 -- "A read call without a report repeats the same ask and changes nothing"; refusals 3 and 4 come before it.
 abbrev pub lasts : Phase → Bool
@@ -212,6 +222,7 @@ lasts phase.Over = false
 lasts phase.Window = true
 lasts phase.Table = true
 lasts phase.Astray = false
+lasts phase.Ahead = false
 
 unfoldable pub readOf : Reader → (w e : List ℕ) → Did
 unfolding sane lentAs led soughtAt searchedOn behind

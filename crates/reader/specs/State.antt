@@ -44,6 +44,7 @@ isCurrent phase.Over = false
 isCurrent phase.Window = false
 isCurrent phase.Table = false
 isCurrent phase.Astray = false
+isCurrent phase.Ahead = false
 
 -- Refusal 11, but for the lent lengths and the ends: one fact for each phrase of the table.
 pub record Sane (r : Reader) : Type 0 where

@@ -116,6 +116,7 @@ impl Reader {
             Phase::Window => Where::At(self.place()),
             Phase::Table => Where::At(self.place()),
             Phase::Astray => Where::None,
+            Phase::Ahead => Where::At(self.place()),
         }
     }
 

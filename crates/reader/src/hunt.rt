@@ -4,6 +4,7 @@ use crate::state::Mark;
 use crate::state::Next;
 use crate::state::Phase;
 use crate::state::Reader;
+use scan::Searched;
 use scan::Stop;
 use window::Widened;
 use window::WindowOffset;
@@ -13,7 +14,7 @@ ghost use mathlib.Core.List.{List};
 ghost use lib.ListN.{length};
 ghost use Rattle.window.specs.Fill.{most};
 ghost use Rattle.reader.specs.State.{Good, byteOf};
-ghost use Rattle.reader.specs.Read.{did, asked, given, tooLong, tooMany, reached, stopped, closed, makesRoom, hunted};
+ghost use Rattle.reader.specs.Read.{did, asked, given, tooLong, tooMany, SearchIs, reached, stopped, closed, makesRoom, hunted};
 
 impl Reader {
     // The record is searched from where the last search stopped, and is given, refused, or wants more of the input.
@@ -23,9 +24,7 @@ impl Reader {
     {
         let fill = self.fill;
         let mark = self.mark;
-        let filled = fill.filled;
-        let start = mark.start.0;
-        if fill.told && start == filled {
+        if fill.told && mark.start.0 == fill.filled {
             return Next {
                 reader: Reader {
                     phase: Phase::Over,
@@ -34,14 +33,25 @@ impl Reader {
                 answer: Answer::End,
             };
         }
-        let from = smaller(larger(mark.search.0, start + 1), filled);
-        let found = scan::search(&window[..filled], ends, from, mark.count, self.slots, b'>');
+        let found = self.search_in(window, ends);
         let stop = found.stop;
         self.reach(found.at, found.count).stop(stop, window, ends)
     }
 
+    // The record is searched behind its `>`, from where the last search stopped, in the filled bytes.
+    pub(crate) fn search_in(self, window: &[u8], ends: &mut [usize]) -> Searched
+        requires { ⌜ Good self (now window) (now ends) ⌝ }
+        ensures { λ s. ⌜ SearchIs self (now (window .entry)) (now (ends .entry)) s (now (ends .exit)) ⌝ }
+    {
+        let fill = self.fill;
+        let mark = self.mark;
+        let filled = fill.filled;
+        let from = smaller(larger(mark.search.0, mark.start.0 + 1), filled);
+        scan::search(&window[..filled], ends, from, mark.count, self.slots, b'>')
+    }
+
     // A search came to `search` with `count` ends recorded.
-    fn reach(self, search: usize, count: usize) -> Reader
+    pub(crate) fn reach(self, search: usize, count: usize) -> Reader
         ensures { λ r. ⌜ r ≡ reached search count self ⌝ }
     {
         let before = self.mark;

@@ -9,7 +9,7 @@ ghost use mathlib.Core.Path.{_≡_};
 ghost use Prim.Native.Nat.{ℕ};
 ghost use mathlib.Core.List.{List};
 ghost use Rattle.reader.specs.State.{Good, Sane, rising};
-ghost use Rattle.reader.specs.Read.{did, readIn, lasts, led, ledTo, leadOn, LeadIn, beginsAt, soughtAt, searchedOn, whenReady, behind, NextIs};
+ghost use Rattle.reader.specs.Read.{did, readIn, lasts, led, ledTo, leadOn, LeadIn, beginsAt, soughtAt, onward, whenReady, behind, NextIs};
 
 impl Reader {
     // The next record, or what stands in its way.
@@ -81,6 +81,7 @@ impl Reader {
                 reader: self,
                 answer: Answer::Place,
             },
+            Phase::Ahead => self.search_on(window, ends),
         }
     }
 
@@ -173,14 +174,18 @@ impl Reader {
         }
     }
 
-    // An unfinished record is searched on, if its recorded ends rise.
+    // A record is searched on, if its recorded ends rise. Where a set ended before it, it is shown no longer.
     fn search_on(self, window: &mut [u8], ends: &mut [usize]) -> Next
         requires { ⌜ Good self (now window) (now ends) ⌝ }
-        ensures { λ n. ⌜ did n (now (window .exit)) (now (ends .exit)) ≡ whenReady searchedOn self (now (window .entry)) (now (ends .entry)) ⌝ }
+        ensures { λ n. ⌜ did n (now (window .exit)) (now (ends .exit)) ≡ onward self (now (window .entry)) (now (ends .entry)) ⌝ }
     {
         let fill = self.fill;
+        let next = Reader {
+            phase: Phase::Searching,
+            ..self
+        };
         if !fill.is_ready() {
-            return self.ask();
+            return next.ask();
         }
         let mark = self.mark;
         let count = mark.count;
@@ -190,7 +195,7 @@ impl Reader {
                 answer: Answer::State,
             };
         }
-        self.hunt(window, ends)
+        next.hunt(window, ends)
     }
 
     // Behind a current record: the end, or the next record.
@@ -219,7 +224,7 @@ impl Reader {
     }
 
     // A record begins at a place of the window, on a line.
-    fn begin(self, start: usize, line: u64) -> Reader
+    pub(crate) fn begin(self, start: usize, line: u64) -> Reader
         ensures { λ r. ⌜ r ≡ beginsAt start line self ⌝ }
     {
         let mark = mark_at(start, line);
@@ -245,6 +250,7 @@ fn is_lasting(phase: Phase) -> bool
         Phase::Window => true,
         Phase::Table => true,
         Phase::Astray => false,
+        Phase::Ahead => false,
     }
 }
 

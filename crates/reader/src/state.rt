@@ -22,7 +22,7 @@ pub struct Mark {
 
 // Where a reader stands. `Lead`: before the first record. `Sought`: after a seek. `Searching`: a record is searched. `Current`: a record was
 // given. `Ended`: the end, behind a record given. `Over`: the end, with no record to name. `Window`, `Table`, `Astray`: refusals 3, 4 and
-// a read's 5, which last.
+// a read's 5, which last. `Ahead`: the next record is known and shown, a set having ended before it.
 pub enum Phase {
     Lead,
     Sought,
@@ -33,6 +33,7 @@ pub enum Phase {
     Window,
     Table,
     Astray,
+    Ahead,
 }
 
 pub struct Reader {
@@ -57,6 +58,21 @@ pub enum Answer {
 pub struct Next {
     pub reader: Reader,
     pub answer: Answer,
+}
+
+// What stands behind the current record: a whole record, one that is not whole in the filled bytes or that a read would refuse, the end; or
+// refusal 7 or 11.
+pub enum Sight {
+    Whole(Position),
+    Unfinished,
+    Over,
+    None,
+    State,
+}
+
+pub struct Look {
+    pub reader: Reader,
+    pub sight: Sight,
 }
 
 // What a setup comes to; it is refused with 1.

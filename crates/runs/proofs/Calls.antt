@@ -49,6 +49,7 @@ due-filled p X C zero r e = go p
     go phase.Window = refl
     go phase.Table = refl
     go phase.Astray = refl
+    go phase.Ahead = refl
 due-filled p X C (suc n) r e = go p
   where
     go : (p : Phase) → dueIn p X C (withFill (took (suc n) (r .fill)) r) e ≡ dueIn p X C r e
@@ -61,6 +62,7 @@ due-filled p X C (suc n) r e = go p
     go phase.Window = refl
     go phase.Table = refl
     go phase.Astray = refl
+    go phase.Ahead = refl
 
 module _ (X : List ℕ) (C : ℕ) (r : Reader) (w e : List ℕ) (t : Tells X C r w e) where
   reports : (n : ℕ) → reportOf n r ≡ tookOver (reported n (r .fill)) r

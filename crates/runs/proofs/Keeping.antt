@@ -83,8 +83,8 @@ module _ (r : Reader) (w e : List ℕ) (g : Good r w e) (h : isSearching (r .pha
           (kept (keeps-ready (passed r) w e hunted (kept-begun (passed r) w e next refl) (λ full. keeps-begun (passed r) w e next refl)))
 
   -- a reader that searches keeps all
-  searching : r .phase ≡ phase.Searching → Kept true r w e
-  searching is = kept-searched r w e g (h (ap isSearching is))
+  searching : isSearching (r .phase) ≡ true → Kept true r w e
+  searching is = kept-searched r w e g (h is)
 
   sane′ : sane r ≡ true
   sane′ = sane-true r (g .is-sane)
@@ -98,13 +98,14 @@ module _ (r : Reader) (w e : List ℕ) (g : Good r w e) (h : isSearching (r .pha
       in-phase : (p : Phase) → r .phase ≡ p → readOf r w e ≡ readIn p r w e → Searched (readOf r w e)
       in-phase phase.Lead is goes = as-searched goes (waiting led (λ full. by-lead (ap isSearching is)))
       in-phase phase.Sought is goes = as-searched goes (waiting soughtAt (λ full. by-sought))
-      in-phase phase.Searching is goes = kept-read r w e (searching is) .is-behind
+      in-phase phase.Searching is goes = kept-read r w e (searching (ap isSearching is)) .is-behind
       in-phase phase.Current is goes = as-searched goes by-behind
       in-phase phase.Ended is goes = as-searched goes h
       in-phase phase.Over is goes = as-searched goes h
       in-phase phase.Window is goes = as-searched goes h
       in-phase phase.Table is goes = as-searched goes h
       in-phase phase.Astray is goes = as-searched goes h
+      in-phase phase.Ahead is goes = kept-read r w e (searching (ap isSearching is)) .is-behind
 
       go : (t : Bool) → (not (lasts (r .phase)) && r .fill .asking) ≡ t → Searched (readOf r w e)
       go true t =

@@ -27,10 +27,10 @@ use Rattle.reader.specs.declared.state.Reader.{Reader}
 use Rattle.reader.specs.declared.state.Phase.{Phase}
 use Rattle.reader.specs.declared.state.Phase.the-variants as phase
 use Rattle.reader.specs.State.{Good, byteOf, sane, lentAs, withFill, inPhase}
-use Rattle.reader.specs.Read.{Said, asks, gives, ends, refuses, Did, does, asked, given, tooLong, tooMany, reached, movedToFront, makesRoom, closed, stopped, searches, hunted, beginsAt, passed, whenReady, behind, soughtAt, searchedOn, led, ledTo, leadDropped, lasts, readIn, readOf}
+use Rattle.reader.specs.Read.{Said, asks, gives, ends, refuses, Did, does, asked, given, tooLong, tooMany, reached, movedToFront, makesRoom, closed, stopped, searches, hunted, beginsAt, passed, whenReady, behind, soughtAt, onward, led, ledTo, leadDropped, lasts, readIn, readOf}
 use Rattle.reader.specs.Calls.{Left, at, nowhere, shownIn, placeOf, reportOf, seekOf}
 use Rattle.reader.proofs.Sanity.{and-true, sane-true}
-use Rattle.reader.proofs.ReadLaws.{closed-full, closed-more, room-moves, room-wider, room-none, hunt-goes, filled-told, filled-not, waits, is-ready, behind-ended, behind-next, sought-mark, sought-astray, on-rising, led-by, led-on, led-mark, led-refused, lead-over, lead-asks, lead-in, lead-begins, begins-good, passed-good, lent-true, neither, read-repeats, read-goes}
+use Rattle.reader.proofs.ReadLaws.{closed-full, closed-more, room-moves, room-wider, room-none, hunt-goes, filled-told, filled-not, waits, is-ready, behind-ended, behind-next, sought-mark, sought-astray, onward-waits, onward-goes, on-rising, searching-good, led-by, led-on, led-mark, led-refused, lead-over, lead-asks, lead-in, lead-begins, begins-good, passed-good, lent-true, neither, read-repeats, read-goes}
 use Rattle.reader.proofs.CallLaws.{place-shown}
 use Rattle.reader.proofs.Kept.{isSearching, Behind, begun-behind, filled-bytes, stops, kept-searched, kept-rising}
 use Rattle.runs.specs.Run.{State, Made, Event, read, brought, sought, refused, Run, begun, by-read, by-report, by-seek, by-refused-report, by-refused-seek}
@@ -50,6 +50,7 @@ mayEnd phase.Over = true
 mayEnd phase.Window = false
 mayEnd phase.Table = false
 mayEnd phase.Astray = false
+mayEnd phase.Ahead = false
 
 -- A record that is searched stands in the window. So does the one behind a current record, unless the end was told.
 abbrev Inside : Phase → Reader → Type 0
@@ -62,6 +63,7 @@ Inside phase.Over r = Unit {0}
 Inside phase.Window r = Unit {0}
 Inside phase.Table r = Unit {0}
 Inside phase.Astray r = Unit {0}
+Inside phase.Ahead r = r .mark .start .0 < r .fill .filled
 
 -- What a reader shows is what the calls say, and where the end may be said, that is the last record given. While an ask is open, it shows none.
 record Shows (p : Phase) (h : List Event) (r : Reader) : Type 0 where
@@ -275,11 +277,19 @@ module _ (X : List ℕ) (C : ℕ) (h : List Event) (r : Reader) (w e : List ℕ)
       go true u = as-after (is-ready f r w e u) then′
       go false u = as-after (waits f r w e u) ask
 
-  -- an unfinished record
-  by-searching : r .phase ≡ phase.Searching → r .fill .asking ≡ false → r .mark .start .0 < r .fill .filled → After h (searchedOn r w e)
-  by-searching is quiet here =
-      let b = t .is-behind (ap isSearching is) in
-      as-after (on-rising r w e (kept-rising r w e (kept-searched r w e g b) refl)) (by-hunt h r w e g b is quiet here)
+  abbrev on : Reader
+  on = inPhase phase.Searching r
+
+  -- a record that is searched on
+  by-onward : isSearching (r .phase) ≡ true → r .fill .asking ≡ false → r .mark .start .0 < r .fill .filled → After h (onward r w e)
+  by-onward is quiet here = go (ready (r .fill)) refl
+    where
+      go : (u : Bool) → ready (r .fill) ≡ u → After h (onward r w e)
+      go true u =
+          let b = t .is-behind is in
+          as-after (onward-goes r w e u ∙ on-rising r w e (kept-rising r w e (kept-searched r w e g b) refl))
+          (by-hunt h on w e (searching-good r w e g) b refl quiet here)
+      go false u = as-after (onward-waits r w e u) (asked-searching h on w e refl here)
 
   -- a reader at rest says the same again
   rests : (p : Phase) (s : Said) → r .phase ≡ p → Shows p h r → shownIn p r ≡ positionAfter (read s ∷ h) → lastGiven (read s ∷ h) ≡ lastGiven h → After h (does s r w e)
@@ -291,13 +301,14 @@ module _ (X : List ℕ) (C : ℕ) (h : List Event) (r : Reader) (w e : List ℕ)
   by-phase phase.Lead is k′ quiet =
       waiting led (asked-lead h r w e is (k′ .last refl)) (by-lead h r w e g (quiet refl) is (k′ .last refl))
   by-phase phase.Sought is k′ quiet = waiting soughtAt (asked-sought h r w e is) (by-sought h r w e g (quiet refl))
-  by-phase phase.Searching is k′ quiet = waiting searchedOn (asked-searching h r w e is (k′ .inside)) (by-searching is (quiet refl) (k′ .inside))
+  by-phase phase.Searching is k′ quiet = by-onward (ap isSearching is) (quiet refl) (k′ .inside)
   by-phase phase.Current is k′ quiet = by-behind h r w e g (quiet refl) (k′ .last refl) (k′ .inside)
   by-phase phase.Ended is k′ quiet = rests phase.Ended ends is k′ (k′ .last refl) refl
   by-phase phase.Over is k′ quiet = rests phase.Over ends is k′ (k′ .last refl) refl
   by-phase phase.Window is k′ quiet = rests phase.Window _ is k′ refl refl
   by-phase phase.Table is k′ quiet = rests phase.Table _ is k′ refl refl
   by-phase phase.Astray is k′ quiet = rests phase.Astray _ is k′ refl refl
+  by-phase phase.Ahead is k′ quiet = by-onward (ap isSearching is) (quiet refl) (k′ .inside)
 
   after-read : After h (readOf r w e)
   unfolding positionAfter lastGiven
@@ -331,6 +342,7 @@ module _ (r : Reader) (f : Fill) (based : f .base ≡ r .fill .base) where
   shown-fill phase.Window = λ i. at (r .mark .line) (based i .0 + r .mark .start .0)
   shown-fill phase.Table = λ i. at (r .mark .line) (based i .0 + r .mark .start .0)
   shown-fill phase.Astray = refl
+  shown-fill phase.Ahead = λ i. at (r .mark .line) (based i .0 + r .mark .start .0)
 
   module _ (more : r .fill .filled ≤ f .filled) (told : f .told ≡ false → r .fill .told ≡ false) where
     inside-fill : (p : Phase) → Inside p r → Inside p (withFill f r)
@@ -343,6 +355,7 @@ module _ (r : Reader) (f : Fill) (based : f .base ≡ r .fill .base) where
     inside-fill phase.Window k = tt
     inside-fill phase.Table k = tt
     inside-fill phase.Astray k = tt
+    inside-fill phase.Ahead k = omega arith
 
     shows-fill : (h : List Event) (n : ℕ) → f .asking ≡ false → Shows (r .phase) h r → Shows (r .phase) (brought n ∷ h) (withFill f r)
     unfolding positionAfter lastGiven

@@ -44,6 +44,7 @@ by-window phase.Over r is = absurd (omega arith)
 by-window phase.Window r is = refl
 by-window phase.Table r is = absurd (omega arith)
 by-window phase.Astray r is = absurd (omega arith)
+by-window phase.Ahead r is = absurd (omega arith)
 
 by-table : (p : Phase) (r : Reader) → numberOf (restSays p r) ≡ 4 → isTable p ≡ true
 by-table phase.Lead r is = absurd (omega arith)
@@ -55,6 +56,7 @@ by-table phase.Over r is = absurd (omega arith)
 by-table phase.Window r is = absurd (omega arith)
 by-table phase.Table r is = refl
 by-table phase.Astray r is = absurd (omega arith)
+by-table phase.Ahead r is = absurd (omega arith)
 
 -- a reader at rest says the same again and changes nothing
 module _ (r : Reader) (w e : List ℕ) (g : Good r w e) where
@@ -74,6 +76,7 @@ module _ (r : Reader) (w e : List ℕ) (g : Good r w e) where
   rests-in phase.Window a is = ap (λ (s : Said). does s r w e) (Option·some-injective (refuses 3 (placed r)) a is)
   rests-in phase.Table a is = ap (λ (s : Said). does s r w e) (Option·some-injective (refuses 4 (placed r)) a is)
   rests-in phase.Astray a is = ap (λ (s : Said). does s r w e) (Option·some-injective (refuses 5 []) a is)
+  rests-in phase.Ahead a is = absurd (Option·none-ne-some a is)
 
   says-again : (a : Said) → restSays (r .phase) r ≡ some a → (lasts (r .phase) ≡ false → r .fill .asking ≡ false) → readOf r w e ≡ does a r w e
   says-again a is quiet = read-goes r w e fine lent (go (lasts (r .phase)) refl) ∙ rests-in (r .phase) a is
@@ -100,6 +103,7 @@ module _ (r : Reader) (w e : List ℕ) (g : Good r w e) where
       stays phase.Window t = refl
       stays phase.Table t = refl
       stays phase.Astray t = absurd (false≢true t)
+      stays phase.Ahead t = absurd (false≢true t)
 
       go : (t : Bool) → lasts (r .phase) ≡ t → (lasts (r .phase) ≡ true) × (readOf r w e .reader ≡ r)
       go true t = (t, ap (λ (d : Did). d .reader) (read-goes r w e fine lent (rw t)) ∙ stays (r .phase) t)

@@ -243,6 +243,7 @@ shown-byte r s l b is = go (r .phase) (sym (place-shown r (sane-true r s) (r .ph
     go phase.Window e = there e
     go phase.Table e = there e
     go phase.Astray e = absurd (false≢true (ap isAt e))
+    go phase.Ahead e = there e
 
 -- a seek to a place within the bounds of refusal 5 is accepted
 accepts : (r : Reader) → Sane r → (l b : ℕ) → 1 ≤ l → l ≤ b + 1 → b ≤ most → seekOf l b r .refusal ≡ none

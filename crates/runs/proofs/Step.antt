@@ -11,15 +11,15 @@ use Rattle.meaning.specs.Due as meant
 use Rattle.reader.specs.declared.state.Reader.{Reader}
 use Rattle.reader.specs.declared.state.Phase.{Phase}
 use Rattle.reader.specs.declared.state.Phase.the-variants as phase
-use Rattle.reader.specs.State.{sane, lentAs, withFill}
-use Rattle.reader.specs.Read.{Said, ends, refuses, Did, does, asked, askFor, placed, whenReady, led, soughtAt, searchedOn, lasts, readIn, readOf}
+use Rattle.reader.specs.State.{sane, lentAs, withFill, inPhase, endsRise}
+use Rattle.reader.specs.Read.{Said, ends, refuses, Did, does, asked, askFor, placed, whenReady, led, soughtAt, onward, behind, lasts, readIn, readOf}
 use Rattle.reader.proofs.Sanity.{and-true, sane-true}
-use Rattle.reader.proofs.ReadLaws.{waits, is-ready, on-rising, lent-true, read-repeats, read-goes}
+use Rattle.reader.proofs.ReadLaws.{waits, is-ready, onward-waits, onward-goes, on-rising, searching-good, lent-true, read-repeats, read-goes}
 use Rattle.reader.proofs.Kept.{isSearching, kept-searched, kept-rising}
 use Rattle.meaning.specs.OnePass.{Mark}
 use Rattle.runs.proofs.Keeping.{by-read, read-good}
-use Rattle.runs.proofs.Begun.{step-as, unready-told}
-use Rattle.runs.proofs.Tells.{Dues, dueIn, dueTo, later, Tells, restSays, Settled, Says, Goes, Answers, Step}
+use Rattle.runs.proofs.Begun.{at-rest, step-as, unready-told}
+use Rattle.runs.proofs.Tells.{Dues, dueSearched, dueIn, dueTo, later, Tells, Told, Rests, restSays, Settled, Says, Goes, Answers, Step}
 use Rattle.runs.proofs.Hunt.{hunts}
 use Rattle.runs.proofs.Lead.{leads}
 use Rattle.runs.proofs.Sought.{soughts, behinds}
@@ -35,6 +35,7 @@ due-asking phase.Over X C r e = refl
 due-asking phase.Window X C r e = refl
 due-asking phase.Table X C r e = refl
 due-asking phase.Astray X C r e = refl
+due-asking phase.Ahead X C r e = refl
 
 module _ (X : List ℕ) (C : ℕ) (r : Reader) (w e : List ℕ) (t : Tells X C r w e) where
   -- a read that changes nothing
@@ -86,11 +87,43 @@ module _ (X : List ℕ) (C : ℕ) (r : Reader) (w e : List ℕ) (t : Tells X C r
   in-phase p is {due} same {d} s =
       subst (λ (o : Dues). Step X C r o d) (sym (ap (λ (q : Phase). dueIn q X C r e) is) ∙ same) s
 
-  -- a record that is searched on: its ends rise
-  on-step : r .phase ≡ phase.Searching → ready (r .fill) ≡ true → Step X C r (dueIn phase.Searching X C r e) (searchedOn r w e)
-  on-step is full =
-      let k = kept-searched {own = true} r w e (t .is-good) (t .is-behind (ap isSearching is)) in
-      step-as refl (on-rising r w e (kept-rising r w e k refl)) (hunts X C r w e t is full)
+  abbrev on : Reader
+  on = inPhase phase.Searching r
+
+  -- a record that is searched on, from its ends so far, which rise: whatever the phase before, it is searched from now on
+  on-step : isSearching (r .phase) ≡ true → Step X C r (dueSearched X C r e) (onward r w e)
+  on-step is = go (ready (r .fill)) refl
+    where
+      rises : endsRise r e ≡ true
+      rises = kept-rising r w e (kept-searched {own = true} r w e (t .is-good) (t .is-behind is)) refl
+
+      tells : Tells X C on w e
+      tells =
+          record {
+            is-good = searching-good r w e (t .is-good);
+            is-behind = λ s. t .is-behind is;
+            sought-inside = λ s. absurd (false≢true s);
+            text = t .text;
+            told = λ s. let k = t .told s in record { is-all = k .is-all; has-room = k .has-room; is-quiet = k .is-quiet };
+            largest-is = t .largest-is;
+          }
+
+      from : {d : Did} → Step X C on (dueSearched X C r e) d → Step X C r (dueSearched X C r e) d
+      from s =
+          record {
+            goes = s .goes;
+            text = s .text;
+            told = s .told;
+            largest-is = s .largest-is;
+            sought-inside = s .sought-inside;
+            same = record { reaches = s .same .reaches; end-told = s .same .end-told; slots-are = s .same .slots-are };
+            rests = λ k. s .rests (at-rest on refl refl);
+            settled = s .settled;
+          }
+
+      go : (u : Bool) → ready (r .fill) ≡ u → Step X C r (dueSearched X C r e) (onward r w e)
+      go true u = step-as refl (onward-goes r w e u ∙ on-rising r w e rises) (from (hunts X C on w e tells refl u))
+      go false u = step-as refl (onward-waits r w e u) (from (asked-step X C on w e tells (unready-told (r .fill) u)))
 
   settles : (p : Phase) → r .phase ≡ p → {a : Said} → restSays p r ≡ some a → (restSays (r .phase) r ≡ some a) × (r .fill .asking ≡ r .fill .asking)
   settles p is says = (ap (λ (q : Phase). restSays q r) is ∙ says, refl)
@@ -98,7 +131,7 @@ module _ (X : List ℕ) (C : ℕ) (r : Reader) (w e : List ℕ) (t : Tells X C r
   by-phase : (p : Phase) → r .phase ≡ p → Step X C r (dueTo X C r e) (readIn p r w e)
   by-phase phase.Lead is = ready-step X C r w e t led (λ full. in-phase phase.Lead is refl (leads hunts X C r w e t is full))
   by-phase phase.Sought is = ready-step X C r w e t soughtAt (λ full. in-phase phase.Sought is refl (soughts hunts X C r w e t is full))
-  by-phase phase.Searching is = ready-step X C r w e t searchedOn (λ full. in-phase phase.Searching is refl (on-step is full))
+  by-phase phase.Searching is = in-phase phase.Searching is refl (on-step (ap isSearching is))
   by-phase phase.Current is = in-phase phase.Current is refl (behinds hunts X C r w e t is)
   by-phase phase.Ended is = same-step X C r w e t ends (last-step X C r w e t ends meant.ends phase.Ended is refl tt) (settles phase.Ended is refl)
   by-phase phase.Over is = same-step X C r w e t ends (last-step X C r w e t ends meant.ends phase.Over is refl tt) (settles phase.Over is refl)
@@ -108,6 +141,7 @@ module _ (X : List ℕ) (C : ℕ) (r : Reader) (w e : List ℕ) (t : Tells X C r
       same-step X C r w e t (refuses 4 (placed r)) (last-step X C r w e t (refuses 4 (placed r)) (meant.refuses 4 (placed r)) phase.Table is refl (refl, refl)) (settles phase.Table is refl)
   by-phase phase.Astray is =
       same-step X C r w e t (refuses 5 []) (last-step X C r w e t (refuses 5 []) (meant.refuses 5 []) phase.Astray is refl (refl, refl)) (settles phase.Astray is refl)
+  by-phase phase.Ahead is = in-phase phase.Ahead is refl (on-step (ap isSearching is))
 
   fine : sane r ≡ true
   fine = sane-true r (t .is-good .is-sane)

@@ -44,12 +44,15 @@ atSought C T l b (x ∷ xs) = cond (eqb x 62) (judge C T (marks l b (suc b) [] x
 abbrev pub endsOf : Reader → (e : List ℕ) → List ℕ
 endsOf r e = map (λ (x : ℕ). r .fill .base .0 + x) (take (r .mark .count) e)
 
+-- where a record is searched
+abbrev pub dueSearched : (X : List ℕ) (C : ℕ) → Reader → (e : List ℕ) → Dues
+dueSearched X C r e = fromHere X C (r .slots) (r .mark .line) (byteOf r) (r .fill .base .0 + goesOn (r .mark)) (endsOf r e)
+
 -- what is due to a reader by its phase
 abbrev pub dueIn : Phase → (X : List ℕ) (C : ℕ) → Reader → (e : List ℕ) → Dues
 dueIn phase.Lead X C r e = dueMarks C (r .slots) (leadMarks (r .mark .line) (byteOf r) (drop (byteOf r) X) false)
 dueIn phase.Sought X C r e = atSought C (r .slots) (r .mark .line) (byteOf r) (drop (byteOf r) X)
-dueIn phase.Searching X C r e =
-    fromHere X C (r .slots) (r .mark .line) (byteOf r) (r .fill .base .0 + goesOn (r .mark)) (endsOf r e)
+dueIn phase.Searching X C r e = dueSearched X C r e
 dueIn phase.Current X C r e =
     let b = r .fill .base .0 + r .mark .search .0 in
     fromHere X C (r .slots) (r .mark .line + r .mark .count) b (suc b) []
@@ -58,6 +61,7 @@ dueIn phase.Over X C r e = meant.ends ∷ []
 dueIn phase.Window X C r e = meant.refuses 3 (placed r) ∷ []
 dueIn phase.Table X C r e = meant.refuses 4 (placed r) ∷ []
 dueIn phase.Astray X C r e = meant.refuses 5 [] ∷ []
+dueIn phase.Ahead X C r e = dueSearched X C r e
 
 abbrev pub dueTo : (X : List ℕ) (C : ℕ) → Reader → (e : List ℕ) → Dues
 dueTo X C r e = dueIn (r .phase) X C r e
@@ -72,6 +76,7 @@ isSought phase.Over = false
 isSought phase.Window = false
 isSought phase.Table = false
 isSought phase.Astray = false
+isSought phase.Ahead = false
 
 -- the end was told: nothing of the input is left, there was room for more, and nothing is asked
 pub record Told (X : List ℕ) (r : Reader) : Type 0 where
@@ -104,6 +109,7 @@ isWindow phase.Over = false
 isWindow phase.Window = true
 isWindow phase.Table = false
 isWindow phase.Astray = false
+isWindow phase.Ahead = false
 
 abbrev pub isTable : Phase → Bool
 isTable phase.Lead = false
@@ -115,6 +121,7 @@ isTable phase.Over = false
 isTable phase.Window = false
 isTable phase.Table = true
 isTable phase.Astray = false
+isTable phase.Ahead = false
 
 -- what refusals leave: 3 the record at offset 0, 4 as many ends as there are slots
 pub record Rests (r : Reader) : Type 0 where
@@ -132,6 +139,7 @@ restSays phase.Over r = some ends
 restSays phase.Window r = some (refuses 3 (placed r))
 restSays phase.Table r = some (refuses 4 (placed r))
 restSays phase.Astray r = some (refuses 5 [])
+restSays phase.Ahead r = none
 
 -- after the end or a refusal a reader is at rest, its ask open or not as before: it says the same again, but the end after refusal 2
 abbrev pub Settled : Said → (asking : Bool) → Reader → Type 0

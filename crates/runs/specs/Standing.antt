@@ -61,6 +61,9 @@ standingIn phase.Over C r F = ends
 standingIn phase.Window C r F = refuses 3 (placed r)
 standingIn phase.Table C r F = refuses 4 (placed r)
 standingIn phase.Astray C r F = refuses 5 []
+standingIn phase.Ahead C r F =
+    let start = r .mark .start .0 in
+    judgedAt C (r .slots) (r .mark .line) (byteOf r) start (max (r .mark .search .0) (start + 1)) (r .mark .count) F
 
 -- The states that are not covered: the end told while an ask is open or the window is full; a place sought behind a full window; a record that is
 -- searched with an end at or behind the place where its search goes on. proofs/Exceptions.antt has a state that meets each.
@@ -70,6 +73,9 @@ pub record Plain (r : Reader) (e : List ℕ) : Type 0 where
   pub sought-inside : r .phase ≡ phase.Sought → r .mark .start .0 < r .fill .capacity
   pub ends-below :
       r .phase ≡ phase.Searching →
+      rising (r .mark .start .0) (take (r .mark .count) e) (max (r .mark .search .0) (r .mark .start .0 + 1) - 1) ≡ true
+  pub ahead-below :
+      r .phase ≡ phase.Ahead →
       rising (r .mark .start .0) (take (r .mark .count) e) (max (r .mark .search .0) (r .mark .start .0 + 1) - 1) ≡ true
 
 -- nothing but asks was heard, and nothing was sought

@@ -5,7 +5,7 @@ use mathlib.Core.Path.{_≡_, refl, sym, ap, _∙_}
 use borrow.Author.Needs.{needs}
 use Rattle.reader.specs.Read.{lasts}
 use Rattle.reader.proofs.Sanity.{passed, failed, true-sane}
-use Rattle.reader.proofs.ReadLaws.{neither, lent-true, read-insane, read-other-window, read-other-table, read-repeats, read-goes, repeat-ask}
+use Rattle.reader.proofs.ReadLaws.{neither, lent-true, unlent-window, unlent-table, read-insane, read-unlent, read-repeats, read-goes, repeat-ask}
 use Rattle.reader.proofs.state.Reader.next.Statement.{statement}
 use Rattle.reader.proofs.state.Reader.next.Tie as tie
 
@@ -26,7 +26,7 @@ returns-2 c =
     let r = S .args .self in
     let w = S .args .window .now in
     let e = S .args .ends .now in
-    sym (read-other-window r w e (c .if2 .taken))
+    sym (read-unlent r w e (unlent-window r w e (c .if2 .taken)))
 
 returns-3 : tie.Need-returns-3
 returns-3 c =
@@ -34,7 +34,7 @@ returns-3 c =
     let r = S .args .self in
     let w = S .args .window .now in
     let e = S .args .ends .now in
-    sym (read-other-table r w e (c .if3 .taken))
+    sym (read-unlent r w e (unlent-table r w e (c .if3 .taken)))
 
 is-lasting-requires : tie.Need-is-lasting-requires
 is-lasting-requires c κs = search needs

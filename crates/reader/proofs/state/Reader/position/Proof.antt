@@ -56,6 +56,12 @@ place-requires-4 c κs = sane-byte _ (true-sane (c .before .before .before .befo
 enum-told-9 : tie.Need-enum-told-9
 enum-told-9 c = search needs
 
+enum-told-10 : tie.Need-enum-told-10
+enum-told-10 c = search needs
+
+place-requires-5 : tie.Need-place-requires-5
+place-requires-5 c κs = sane-byte _ (true-sane (c .before .before .before .before .args .self) (passed (c .before .before .before .is-sane .ensures) (c .before .before .if1 .left)))
+
 returns-2 : tie.Need-returns-2
 returns-2 c =
     sym (place-shown (c .before .before .before .before .args .self) (passed (c .before .before .before .is-sane .ensures) (c .before .before .if1 .left)) phase.Lead (c .enum-told .given .1))
@@ -96,6 +102,11 @@ returns-10 : tie.Need-returns-10
 returns-10 c =
     sym (place-shown (c .before .before .before .before .args .self) (passed (c .before .before .before .is-sane .ensures) (c .before .before .if1 .left)) phase.Astray (c .enum-told9 .given .1))
 
+returns-11 : tie.Need-returns-11
+returns-11 c =
+    ap (λ (p : Position). at (p .line) (p .byte .0)) (c .place5 .ensures)
+    ∙ sym (place-shown (c .before .before .before .before .before .args .self) (passed (c .before .before .before .before .is-sane .ensures) (c .before .before .before .if1 .left)) phase.Ahead (c .before .enum-told10 .given .1))
+
 pub position-spec : {M : Type 1} → statement M
 position-spec =
     tie.close
@@ -115,6 +126,8 @@ position-spec =
     enum-told-8
     place-requires-4
     enum-told-9
+    enum-told-10
+    place-requires-5
     returns-2
     returns-3
     returns-4
@@ -123,4 +136,5 @@ position-spec =
     returns-7
     returns-8
     returns-9
-    returns-10)
+    returns-10
+    returns-11)

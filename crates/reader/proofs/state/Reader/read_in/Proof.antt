@@ -53,6 +53,12 @@ place-requires-2 c κs = search needs
 enum-told-9 : tie.Need-enum-told-9
 enum-told-9 c = search needs
 
+enum-told-10 : tie.Need-enum-told-10
+enum-told-10 c = search needs
+
+search-on-requires-2 : tie.Need-search-on-requires-2
+search-on-requires-2 c κs = search needs
+
 same-length : tie.Need-same-length
 same-length c = search needs
 
@@ -126,6 +132,17 @@ returns-9 c =
     let S = c .before .before .before .before in
     ap (λ (x : Phase). readIn x (S .args .self) (S .args .window .now) (S .args .ends .now)) (sym (c .enum-told9 .given .1))
 
+same-length-9 : tie.Need-same-length-9
+same-length-9 c = search needs
+
+same-length-10 : tie.Need-same-length-10
+same-length-10 c = search needs
+
+returns-10 : tie.Need-returns-10
+returns-10 c =
+    let S = c .before .before .before .before .before .before .before .before .before .before .before in
+    c .before .before .before .before .search-on2 .ensures ∙ ap (λ (x : Phase). readIn x (S .args .self) (S .args .window .now) (S .args .ends .now)) (sym (c .before .before .before .before .before .before .before .enum-told10 .given .1))
+
 pub read-in-spec : {M : Type 1} → statement M
 read-in-spec =
     tie.close
@@ -145,6 +162,8 @@ read-in-spec =
     enum-told-8
     place-requires-2
     enum-told-9
+    enum-told-10
+    search-on-requires-2
     same-length
     same-length-2
     returns
@@ -161,4 +180,7 @@ read-in-spec =
     returns-6
     returns-7
     returns-8
-    returns-9)
+    returns-9
+    same-length-9
+    same-length-10
+    returns-10)
