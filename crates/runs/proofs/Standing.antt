@@ -27,7 +27,7 @@ use Rattle.reader.specs.Read.{Said, asks, gives, ends, refuses}
 use Rattle.reader.proofs.Sanity.{and-true, true-sane}
 use Rattle.reader.proofs.Kept.{isSearching, Behind, goesOn}
 use Rattle.runs.specs.Run.{State, reading}
-use Rattle.runs.specs.Standing.{own, judgedAt, firstOf, standingIn, Plain, Asks, Standing}
+use Rattle.runs.specs.Standing.{isUnfinished, own, judgedAt, firstOf, standingIn, Plain, Asks, Standing}
 use Rattle.runs.proofs.Tells.{Dues, judge, unlessOver, fromHere, atSought, endsOf, dueIn, dueTo, isSought, Tells, Says, Answers, Goes}
 use Rattle.runs.proofs.SearchMarks.{ends-count}
 use Rattle.runs.proofs.Waiting.{waits}
@@ -166,6 +166,7 @@ module _ (X : List ℕ) (C : ℕ) (r : Reader) (e : List ℕ) (s : Sane r) (lent
   first-due phase.Window = refl
   first-due phase.Table = refl
   first-due phase.Astray = refl
+  first-due phase.Ahead = first-searching
 
 -- ends that pass the test rise, below any higher place
 rising-rises : (lo : ℕ) (es : List ℕ) (hi top : ℕ) → lo < top → hi < top → rising lo es hi ≡ true → Rises (suc lo) es top
@@ -189,7 +190,7 @@ module _ (X : List ℕ) (start : State) (good : Good (start .reader) (start .win
   abbrev C : ℕ
   C = largest (r .fill .policy) (r .fill .lent) (r .fill .capacity)
 
-  start-behind : r .phase ≡ phase.Searching → Behind true (r .mark) e
+  start-behind : isUnfinished (r .phase) ≡ true → Behind true (r .mark) e
   start-behind is =
       let from = r .mark .start .0 in
       let rises : Rises (suc from) (take (r .mark .count) e) (goesOn (r .mark)) =
@@ -208,23 +209,24 @@ module _ (X : List ℕ) (start : State) (good : Good (start .reader) (start .win
   start-tells text told =
       record {
         is-good = good;
-        is-behind = λ is. start-behind (searching-is (r .phase) is);
+        is-behind = λ is. start-behind (sym (unfinished-is (r .phase)) ∙ is);
         sought-inside = λ is. plain .sought-inside (sought-is (r .phase) is);
         text = text;
         told = λ is. record { is-all = told is; has-room = plain .told-room is; is-quiet = plain .told-quiet is };
         largest-is = refl;
       }
     where
-      searching-is : (p : Phase) → isSearching p ≡ true → p ≡ phase.Searching
-      searching-is phase.Lead t = absurd (false≢true t)
-      searching-is phase.Sought t = absurd (false≢true t)
-      searching-is phase.Searching t = refl
-      searching-is phase.Current t = absurd (false≢true t)
-      searching-is phase.Ended t = absurd (false≢true t)
-      searching-is phase.Over t = absurd (false≢true t)
-      searching-is phase.Window t = absurd (false≢true t)
-      searching-is phase.Table t = absurd (false≢true t)
-      searching-is phase.Astray t = absurd (false≢true t)
+      unfinished-is : (p : Phase) → isSearching p ≡ isUnfinished p
+      unfinished-is phase.Lead = refl
+      unfinished-is phase.Sought = refl
+      unfinished-is phase.Searching = refl
+      unfinished-is phase.Current = refl
+      unfinished-is phase.Ended = refl
+      unfinished-is phase.Over = refl
+      unfinished-is phase.Window = refl
+      unfinished-is phase.Table = refl
+      unfinished-is phase.Astray = refl
+      unfinished-is phase.Ahead = refl
 
       sought-is : (p : Phase) → isSought p ≡ true → p ≡ phase.Sought
       sought-is phase.Lead t = absurd (false≢true t)
@@ -236,6 +238,7 @@ module _ (X : List ℕ) (start : State) (good : Good (start .reader) (start .win
       sought-is phase.Window t = absurd (false≢true t)
       sought-is phase.Table t = absurd (false≢true t)
       sought-is phase.Astray t = absurd (false≢true t)
+      sought-is phase.Ahead t = absurd (false≢true t)
 
 -- a read says the first of what is due
 says-for : (s : Said) (a : meant.Said Mark) (r : Reader) (e : List ℕ) → Says s a r e → s ≡ saidFor a

@@ -1,7 +1,7 @@
 -- Any other state that passes 11 (01, below the refusals): rules 2 to 5 "are judged from the recorded ends, the search place and the filled bytes
 -- as they stand, and the later refills". F is the filled bytes and the later refills, from the front of the window on. Assumes nothing.
 use Prim.Native.Nat.{ℕ, _+_, _-_, _<_, max}
-use mathlib.Core.Bool.{true, false, cond, _&&_, _||_}
+use mathlib.Core.Bool.{Bool, true, false, cond, _&&_, _||_}
 use mathlib.Core.List.{List, [], _∷_, _++_}
 use mathlib.Core.Path.{_≡_}
 use lib.ListN.{length, take, drop}
@@ -65,6 +65,19 @@ standingIn phase.Ahead C r F =
     let start = r .mark .start .0 in
     judgedAt C (r .slots) (r .mark .line) (byteOf r) start (max (r .mark .search .0) (start + 1)) (r .mark .count) F
 
+-- the phases of a record that is not yet searched to its end
+abbrev pub isUnfinished : Phase → Bool
+isUnfinished phase.Lead = false
+isUnfinished phase.Sought = false
+isUnfinished phase.Searching = true
+isUnfinished phase.Current = false
+isUnfinished phase.Ended = false
+isUnfinished phase.Over = false
+isUnfinished phase.Window = false
+isUnfinished phase.Table = false
+isUnfinished phase.Astray = false
+isUnfinished phase.Ahead = true
+
 -- The states that are not covered: the end told while an ask is open or the window is full; a place sought behind a full window; a record that is
 -- searched with an end at or behind the place where its search goes on. proofs/Exceptions.antt has a state that meets each.
 pub record Plain (r : Reader) (e : List ℕ) : Type 0 where
@@ -72,10 +85,7 @@ pub record Plain (r : Reader) (e : List ℕ) : Type 0 where
   pub told-room : r .fill .told ≡ true → r .fill .filled < r .fill .capacity
   pub sought-inside : r .phase ≡ phase.Sought → r .mark .start .0 < r .fill .capacity
   pub ends-below :
-      r .phase ≡ phase.Searching →
-      rising (r .mark .start .0) (take (r .mark .count) e) (max (r .mark .search .0) (r .mark .start .0 + 1) - 1) ≡ true
-  pub ahead-below :
-      r .phase ≡ phase.Ahead →
+      isUnfinished (r .phase) ≡ true →
       rising (r .mark .start .0) (take (r .mark .count) e) (max (r .mark .search .0) (r .mark .start .0 + 1) - 1) ≡ true
 
 -- nothing but asks was heard, and nothing was sought

@@ -1,0 +1,3 @@
+-- Record sets (01, module 6): what a set is, what a set call answers and leaves.
+pub mod Set
+pub mod Read
