@@ -1,17 +1,17 @@
 -- One look, and a record put back (01, module 6: "every record from the current place that is whole in the window ... and meets no refusal";
 -- "the rest is read next"): a record that is seen whole is due next, and nothing that is due is lost. Assumes nothing.
-use Prim.Native.Nat.{ℕ, suc, _+_, _≤_, _<_, max}
+use Prim.Native.Nat.{ℕ, suc, _+_, _≤_, _<_}
 use native.Mathlib.Decide.{decLe}
 use native.Mathlib.Omega.{arith}
 use mathlib.Core.Bool.{Bool, true, false, _&&_, false≢true}
 use mathlib.Core.List.{List, [], _∷_}
 use mathlib.Core.Path.{_≡_, refl, sym, ap, subst, _∙_}
-use lib.ListN.{length, drop, set}
+use lib.ListN.{drop, set}
 use lib.Dec.{eqb}
 use borrow.Author.Tests.{eqb-true}
 use Rattle.meaning.specs.Due as meant
 use Rattle.meaning.specs.OnePass as pass
-use Rattle.scan.specs.Search.{Recorded, stopAt}
+use Rattle.scan.specs.Search.{Recorded}
 use Rattle.scan.specs.declared.ends.Stop.{Stop}
 use Rattle.scan.specs.declared.ends.Stop.the-variants as stop
 use Rattle.window.specs.Fill.{ready}
@@ -19,9 +19,9 @@ use Rattle.reader.specs.declared.state.Reader.{Reader}
 use Rattle.reader.specs.declared.state.Mark.{Mark}
 use Rattle.reader.specs.declared.state.Phase.{Phase}
 use Rattle.reader.specs.declared.state.Phase.the-variants as phase
-use Rattle.reader.specs.State.{Good, byteOf, sane, lentAs, isCurrent, withMark, inPhase, markAt}
-use Rattle.reader.specs.Read.{gives, Did, given, reached, closed, stopped, searches, hunted, passed}
-use Rattle.reader.specs.Look.{Seen, whole, unfinished, over, denied, Looked, sees, lookedAt, leftAhead, shut, lookedTo, looksOn, looksBehind, lookOf, putBackOf}
+use Rattle.reader.specs.State.{Good, byteOf, sane, isCurrent, withMark, inPhase, markAt}
+use Rattle.reader.specs.Read.{gives, Did, reached, stopped, searches, hunted, passed}
+use Rattle.reader.specs.Look.{Seen, whole, unfinished, over, denied, Looked, sees, lookedAt, leftAhead, lookedTo, looksBehind, lookOf, putBackOf}
 use Rattle.reader.proofs.Sanity.{and-true, sane-true}
 use Rattle.reader.proofs.ReadLaws.{closed-more, hunt-goes, filled-told, passed-good, lent-true}
 use Rattle.reader.proofs.LookLaws.{shut-full, shut-more, to-told, to-not, on-found, look-over, look-waits, look-goes, look-behind, put-current}
