@@ -7,7 +7,7 @@ use mathlib.Core.Logic.{inl, inr}
 use mathlib.Core.Path.{_≡_, sym, ap}
 use lib.ListN.{length, set}
 use lib.Dec.{eqb}
-use borrow.Author.Tests.{le-leb, lt-leb, eq-eqb, ne-eqb}
+use borrow.Author.Tests.{le-leb, lt-leb, eq-eqb}
 use Rattle.scan.specs.Search.{Recorded}
 use Rattle.scan.specs.declared.ends.Stop.the-variants as stop
 use Rattle.window.specs.Fill.{ready}

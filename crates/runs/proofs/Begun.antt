@@ -21,7 +21,7 @@ use Rattle.reader.specs.declared.state.Phase.{Phase}
 use Rattle.reader.specs.declared.state.Phase.the-variants as phase
 use Rattle.reader.specs.State.{Good, inPhase, withMark, markAt}
 use Rattle.reader.specs.Read.{Said, Did, does, hunted, beginsAt}
-use Rattle.reader.proofs.Kept.{begun-behind}
+use Rattle.reader.proofs.Kept.{isSearching, Behind, begun-behind}
 use Rattle.runs.proofs.Tells.{Dues, judge, fromHere, unlessOver, dueIn, isSought, isWindow, isTable, Told, Tells, Rests, Settled, Goes, Step, Hunts}
 
 -- a window over the input from place a on, of which the first m bytes are filled
@@ -130,18 +130,27 @@ module _ (X : List ℕ) (C : ℕ) (r : Reader) (w e : List ℕ) (t : Tells X C r
         settled = settled;
       }
 
+  -- the relation holds again, whatever the mark and the phase, where they pass
+  pub tells-with :
+      (m : Mark) (p : Phase) (e′ : List ℕ) →
+      isSought p ≡ false →
+      Good (inPhase p (withMark m r)) w e′ →
+      (isSearching p ≡ true → Behind true m e′) →
+      Tells X C (inPhase p (withMark m r)) w e′
+  tells-with m p e′ no′ g h =
+      record {
+        is-good = g;
+        is-behind = h;
+        sought-inside = λ is. absurd (false≢true (sym no′ ∙ is));
+        text = t .text;
+        told = told-with m p;
+        largest-is = t .largest-is;
+      }
+
   -- a search of a record that begins in the window
   module _ (start line : ℕ) (g : Good (beginsAt start line r) w e) where
-    begun-tells : Tells X C (beginsAt start line r) w e
-    begun-tells =
-        record {
-          is-good = g;
-          is-behind = λ is. begun-behind (beginsAt start line r) w e refl;
-          sought-inside = λ is. absurd (false≢true is);
-          text = t .text;
-          told = told-with (markAt start start 0 line) phase.Searching;
-          largest-is = t .largest-is;
-        }
+    pub begun-tells : Tells X C (beginsAt start line r) w e
+    begun-tells = tells-with (markAt start start 0 line) phase.Searching e refl g (λ is. begun-behind (beginsAt start line r) w e refl)
 
     pub begun-step :
         Hunts →

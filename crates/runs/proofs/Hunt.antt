@@ -38,7 +38,7 @@ use Rattle.reader.specs.Read.{Said, gives, ends, refuses, does, asked, placed, 
 use Rattle.reader.proofs.ReadLaws.{closed-full, closed-more, room-moves, room-wider, room-none, hunt-over, hunt-goes, filled-told, filled-not, neither}
 use Rattle.reader.proofs.RiseLaws.{moved-taken}
 use Rattle.reader.proofs.Kept.{isSearching, goesOn, filled-bytes, finds, stops, found-behind}
-use Rattle.runs.proofs.Tells.{Dues, judge, unlessOver, fromHere, endsOf, dueIn, dueTo, isSought, isWindow, isTable, Told, Tells, later, Rests, restSays, Says, Answers, Step, Hunts}
+use Rattle.runs.proofs.Tells.{Dues, judge, unlessOver, fromHere, endsOf, dueSearched, dueIn, dueTo, isSought, isWindow, isTable, Told, Tells, later, Rests, restSays, Says, Answers, Goes, Step, Hunts}
 use Rattle.runs.proofs.Begun.{text-from, text-slid, at-rest, ready-full, step-as, window-fits, step-rests}
 use Rattle.runs.proofs.SearchMarks.{first, first-late, late-least, SeesBy, foundAt, sees, closes, endsIn, ends-more, ends-count}
 
@@ -81,7 +81,7 @@ later-judged C T a (m ∷ ms) = go (judgedMark C T m) refl
     go (some n) t = rw (due-refuses (judgedMark C T) placeMark m ms n t)
 
 -- behind the last byte, and before it
-none-left : (X : List ℕ) (C T l b p : ℕ) (E : List ℕ) → drop b X ≡ [] → fromHere X C T l b p E ≡ meant.ends ∷ []
+pub none-left : (X : List ℕ) (C T l b p : ℕ) (E : List ℕ) → drop b X ≡ [] → fromHere X C T l b p E ≡ meant.ends ∷ []
 none-left X C T l b p E is = ap (λ (xs : List ℕ). unlessOver xs (judge C T (marks l b p E (drop p X) false))) is
 
 some-left : (X : List ℕ) (C T l b p : ℕ) (E : List ℕ) (x : ℕ) (xs : List ℕ) → drop b X ≡ x ∷ xs → fromHere X C T l b p E ≡ judge C T (marks l b p E (drop p X) false)
@@ -256,6 +256,15 @@ module _ (X : List ℕ) (C : ℕ) (r : Reader) (w e : List ℕ) (t : Tells X C r
           (refl, place)
           (then′ ∙ ap (λ (vs : List ℕ). meant.refuses n vs ∷ []) place))
 
+      -- what is due is due still, where one pass goes on
+      pub still-due : start < top → ms ≡ seenAt (s .out .at) (s .out .count) (s .ends) → dueSearched X C q (s .ends) ≡ due
+      still-due inside are =
+          let place : goesOn (q .mark) ≡ s .out .at = omega (arith, f .apart) in
+          some-left X C (r .slots) (r .mark .line) (byteOf r) (base + goesOn (q .mark)) (endsOf q (s .ends)) _ _ (standing start inside)
+          ∙ ap (λ (i : ℕ). judge C (r .slots) (seenAt i (s .out .count) (s .ends))) place
+          ∙ ap (judge C (r .slots)) (sym are)
+          ∙ sym due-is
+
       -- at a mark
       at-mark :
           SeesAs stop.Record ms s →
@@ -327,18 +336,10 @@ module _ (X : List ℕ) (C : ℕ) (r : Reader) (w e : List ℕ) (t : Tells X C r
 
       -- at the end of the filled bytes, where the window is full
       module _ (k : SeesAs stop.Filled ms s) (inside : start < top) (is : r .phase ≡ phase.Searching) (open′ : r .fill .told ≡ false) where
-        still-due : dueIn phase.Searching X C q (s .ends) ≡ due
-        still-due =
-            let place : goesOn (q .mark) ≡ s .out .at = omega (arith, f .apart) in
-            some-left X C (r .slots) (r .mark .line) (byteOf r) (base + goesOn (q .mark)) (endsOf q (s .ends)) _ _ (standing start inside)
-            ∙ ap (λ (i : ℕ). judge C (r .slots) (seenAt i (s .out .count) (s .ends))) place
-            ∙ ap (judge C (r .slots)) (sym (k .are))
-            ∙ sym due-is
-
         wider-asks : start ≤ 0 → (c : ℕ) → widenedTo (r .fill) ≡ some c → Step X C r due (makesRoom q w (s .ends))
         wider-asks z c p =
             step-as refl (room-wider q w (s .ends) z (ofCapacity c (r .fill)) (sym (ap (λ (o : Option ℕ). wider o (r .fill)) p)))
-            (asks-on (ofCapacity c (r .fill)) (q .mark) w (s .ends) is open′ open′ refl (t .text) (grown-largest (r .fill) c p ∙ t .largest-is) still-due)
+            (asks-on (ofCapacity c (r .fill)) (q .mark) w (s .ends) is open′ open′ refl (t .text) (grown-largest (r .fill) c p ∙ t .largest-is) (still-due inside (k .are)))
 
         too-long : start ≤ 0 → top ≡ r .fill .capacity → widenedTo (r .fill) ≡ none → Step X C r due (makesRoom q w (s .ends))
         too-long z full p =
@@ -359,7 +360,7 @@ module _ (X : List ℕ) (C : ℕ) (r : Reader) (w e : List ℕ) (t : Tells X C r
             go : Dec (start ≤ 0) → (o : Option ℕ) → widenedTo (r .fill) ≡ o → Step X C r due (makesRoom q w (s .ends))
             go (no z) o p =
                 moves (s .out .at) (s .out .count) (s .ends) hi is open′ (omega arith) (omega (arith, f .apart)) (omega (arith, f .within, bytes))
-                (omega (arith, f .limited, slots)) rise still-due
+                (omega (arith, f .limited, slots)) rise (still-due inside (k .are))
             go (yes z) (some c) p = wider-asks z c p
             go (yes z) none p = too-long z full p
 
@@ -382,41 +383,60 @@ module _ (X : List ℕ) (C : ℕ) (r : Reader) (w e : List ℕ) (t : Tells X C r
           go true u = step-as refl (filled-told q w (s .ends) u) (at-end k inside (t .told u))
           go false u = step-as refl (filled-not q w (s .ends) u) (at-full-window k inside is u (ready-full (r .fill) full u) hi rise)
 
-  -- a record that stands in the window is searched
+  -- what one pass finds where a record that stands in the window is searched, and what is due by it
+  pub sees-found : start < top → SeesAs (searches r w e .out .stop) (seenAt (goesOn (r .mark)) (r .mark .count) e) (searches r w e)
+  sees-found inside =
+      let g = t .is-good in
+      let s = searches r w e in
+      let from = min (goesOn (r .mark)) top in
+      let b = g .is-sane .search-filled in
+      let from-is : from ≡ goesOn (r .mark) = min-eq-left (omega arith) in
+      subst (λ (i : ℕ). SeesAs (s .out .stop) (seenAt i (r .mark .count) e) s) from-is
+      (sees X base top (r .mark .line) (byteOf r) (r .slots) (drop from (take top w)) from (r .mark .count) e (ahead from (omega arith))
+      (omega (arith, length-drop from (take top w), bytes)) (omega (arith, g .is-sane .count-slots, g .table-lent)))
+
+  pub inside-due : start < top → dueSearched X C r e ≡ judge C (r .slots) (seenAt (goesOn (r .mark)) (r .mark .count) e)
+  inside-due inside = some-left X C (r .slots) (r .mark .line) (byteOf r) (base + goesOn (r .mark)) (endsOf r e) _ _ (standing start inside)
+
+  -- it is searched
   inside-hunts : r .phase ≡ phase.Searching → ready (r .fill) ≡ true → start < top → Step X C r (dueIn phase.Searching X C r e) (hunted r w e)
   inside-hunts is full inside =
       let g = t .is-good in
       let h = t .is-behind (ap isSearching is) in
       let s = searches r w e in
-      let from = min (goesOn (r .mark)) top in
-      let b = g .is-sane .search-filled in
-      let from-is : from ≡ goesOn (r .mark) = min-eq-left (omega arith) in
-      let found : SeesAs (s .out .stop) (seenAt (goesOn (r .mark)) (r .mark .count) e) s =
-      subst (λ (i : ℕ). SeesAs (s .out .stop) (seenAt i (r .mark .count) e) s) from-is
-      (sees X base top (r .mark .line) (byteOf r) (r .slots) (drop from (take top w)) from (r .mark .count) e (ahead from (omega arith))
-      (omega (arith, length-drop from (take top w), bytes)) (omega (arith, g .is-sane .count-slots, g .table-lent))) in
       step-as refl (hunt-goes r w e (neither (r .fill .told) (eqb start top) (inr (ne-eqb start top (λ z. omega arith)))) s refl)
-      (steps _ _ s (some-left X C (r .slots) (r .mark .line) (byteOf r) (base + goesOn (r .mark)) (endsOf r e) _ _ (standing start inside)) (finds r w e g h)
-      inside is full _ (found-behind r w e g h .ends-behind refl) (s .out .stop) found (stops r w e g h))
+      (steps _ _ s (inside-due inside) (finds r w e g h)
+      inside is full _ (found-behind r w e g h .ends-behind refl) (s .out .stop) (sees-found inside) (stops r w e g h))
 
-  -- nothing of the record is there yet, and the window is full: it is moved to the front
+  -- nothing of the record is there yet
+  pub outside-found : top ≡ start → stopAt top (r .mark .count) stop.Filled e ≡ searches r w e
+  outside-found z =
+      let a = t .is-good .is-sane .start-search in
+      let b = t .is-good .is-sane .search-filled in
+      let from = min (goesOn (r .mark)) top in
+      let from-is : from ≡ top = omega arith in
+      ap (λ (i : ℕ). stopAt i (r .mark .count) stop.Filled e) (sym from-is)
+      ∙ sym (search-past 62 (r .slots) (take top w) from (r .mark .count) e (omega (arith, bytes)))
+
+  pub outside-due : top ≡ start → dueSearched X C (reached top (r .mark .count) r) e ≡ dueSearched X C r e
+  outside-due z =
+      let a = t .is-good .is-sane .start-search in
+      let b = t .is-good .is-sane .search-filled in
+      let place : goesOn (reached top (r .mark .count) r .mark) ≡ goesOn (r .mark) = omega arith in
+      ap (λ (p : ℕ). fromHere X C (r .slots) (r .mark .line) (byteOf r) (base + p) (endsOf r e)) place
+
+  -- and the window is full: it is moved to the front
   outside-moves : r .phase ≡ phase.Searching → ready (r .fill) ≡ true → top ≡ start → r .fill .told ≡ false → Step X C r (dueIn phase.Searching X C r e) (hunted r w e)
   outside-moves is full z open′ =
       let g = t .is-good in
       let a = g .is-sane .start-search in
       let b = g .is-sane .search-filled in
-      let from = min (goesOn (r .mark)) top in
-      let from-is : from ≡ top = omega arith in
-      let place : goesOn (reached top (r .mark .count) r .mark) ≡ goesOn (r .mark) = omega arith in
-      let past : stopAt top (r .mark .count) stop.Filled e ≡ searches r w e =
-      ap (λ (i : ℕ). stopAt i (r .mark .count) stop.Filled e) (sym from-is)
-      ∙ sym (search-past 62 (r .slots) (take top w) from (r .mark .count) e (omega (arith, bytes))) in
       step-as refl
-      (hunt-goes r w e (neither (r .fill .told) (eqb start top) (inl open′)) (stopAt top (r .mark .count) stop.Filled e) past
+      (hunt-goes r w e (neither (r .fill .told) (eqb start top) (inl open′)) (stopAt top (r .mark .count) stop.Filled e) (outside-found z)
       ∙ filled-not (reached top (r .mark .count) r) w e open′)
       (moves top (r .mark .count) e _ is open′ (omega (arith, ready-full (r .fill) full open′, g .is-sane .capacity-least)) (omega arith) (omega arith)
       (omega (arith, g .is-sane .count-slots, g .table-lent)) (t .is-behind (ap isSearching is) .ends-behind refl)
-      (ap (λ (p : ℕ). fromHere X C (r .slots) (r .mark .line) (byteOf r) (base + p) (endsOf r e)) place))
+      (outside-due z))
 
 pub hunts : Hunts
 hunts X C r w e t is full = go (decLe (r .fill .filled) (r .mark .start .0)) (r .fill .told) refl

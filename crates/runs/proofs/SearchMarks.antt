@@ -208,13 +208,14 @@ module _ (X : List ℕ) (base top l b : ℕ) where
         ∷ marks (l + s .out .count) (base + s .out .at) (suc (base + s .out .at)) [] (drop (suc (base + s .out .at)) X) false
     pub stands : drop (base + s .out .at) X ≡ 62 ∷ drop (suc (base + s .out .at)) X
 
-  -- at an end without a slot: the record has this end behind those of the table
+  -- at an end without a slot: one pass goes on there; the record has this end behind those of the table
   pub record SeesFull (ms : List Mark) (s : Recorded) : Type 0 where
     pub head : Mark
     pub tail : List Mark
     pub are : ms ≡ head ∷ tail
     pub line-is : head .line ≡ l
     pub byte-is : head .byte ≡ b
+    pub still : ms ≡ foundAt (s .out .at) (s .out .count) (s .ends)
     pub more : s .out .count < length (head .ends)
     pub this : getD (head .ends) (s .out .count) 0 ≡ base + s .out .at
 
@@ -286,6 +287,7 @@ module _ (X : List ℕ) (base top l b : ℕ) where
           are = are;
           line-is = line;
           byte-is = byte;
+          still = refl;
           more = omega (arith, ap length ends, length-append (endsIn base n e) ((base + i) ∷ fresh), c);
           this =
               ap (λ (k : ℕ). getD (m .ends) k 0) (sym c)
