@@ -25,3 +25,5 @@ pub mod Own
 pub mod Standing
 pub mod Exceptions
 pub mod Sample
+pub mod SetTable
+pub mod Gather
