@@ -22,7 +22,7 @@ use Rattle.reader.specs.declared.state.Phase.the-variants as phase
 use Rattle.reader.specs.State.{byteOf, withFill, withMark, inPhase, markAt}
 use Rattle.reader.specs.Read.{ends, refuses, asked, ledTo, leadOn, LeadIn}
 use Rattle.reader.proofs.ReadLaws.{led-by, led-on, led-mark, led-refused, lead-over, lead-asks, lead-in, lead-begins}
-use Rattle.runs.proofs.Tells.{Dues, judge, dueIn, isSought, isTable, Tells, Step, Hunts, Leads}
+use Rattle.runs.proofs.Tells.{Dues, judge, fromHere, dueIn, isSought, isTable, Tells, Step, Hunts, Leads}
 use Rattle.runs.proofs.LeadBytes.{firstLine, Meets, lead-meets}
 use Rattle.runs.proofs.Begun.{at-rest, text-from, text-byte, text-slid, from-mark, step-as, window-fits, at-end, step-rests, begun-step}
 
@@ -50,7 +50,7 @@ module _ (X : List ℕ) (C : ℕ) (r : Reader) (w e : List ℕ) (t : Tells X C r
   abbrev due : Dues
   due = dueIn phase.Lead X C r e
 
-  abbrev stop : Blank
+  abbrev pub stop : Blank
   stop = leadAt (drop (r .mark .start .0) (take (r .fill .filled) w)) (r .mark .start .0) 0
 
   inside : LeadIn stop r
@@ -111,16 +111,19 @@ module _ (X : List ℕ) (C : ℕ) (r : Reader) (w e : List ℕ) (t : Tells X C r
     due-there =
         ap (dueMarks C (r .slots)) (meets .is-first shut ∙ ap (firstLine (r .mark .line + stop .lines) (base + stop .at)) here)
 
-    begins : Hunts → ready (r .fill) ≡ true → first ≡ 62 → Step X C r due (ledTo stop r w e)
-    begins hunts full is =
+    -- a record begins there
+    pub lead-from : first ≡ 62 → due ≡ fromHere X C (r .slots) (r .mark .line + stop .lines) (base + stop .at) (suc (base + stop .at)) []
+    lead-from is =
         let line = r .mark .line + stop .lines in
         let rest = drop (suc (base + stop .at)) X in
-        step-as
-        (due-there
+        due-there
         ∙ due-first C (r .slots) line (base + stop .at) first rest is
-        ∙ sym (from-mark X C (r .slots) line (base + stop .at) rest (here ∙ ap (λ (x : ℕ). x ∷ rest) is)))
-        (led-mark r w e stop shut is)
-        (begun-step X C r w e t (stop .at) line (lead-begins r w e (t .is-good) stop inside) hunts full)
+        ∙ sym (from-mark X C (r .slots) line (base + stop .at) rest (here ∙ ap (λ (x : ℕ). x ∷ rest) is))
+
+    begins : Hunts → ready (r .fill) ≡ true → first ≡ 62 → Step X C r due (ledTo stop r w e)
+    begins hunts full is =
+        step-as (lead-from is) (led-mark r w e stop shut is)
+        (begun-step X C r w e t (stop .at) (r .mark .line + stop .lines) (lead-begins r w e (t .is-good) stop inside) hunts full)
 
     refused : (first ≡ 62 → ⊥) → Step X C r due (ledTo stop r w e)
     refused other =

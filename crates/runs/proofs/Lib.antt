@@ -10,6 +10,7 @@ pub mod Sought
 pub mod Step
 pub mod Look
 pub mod Calls
+pub mod Back
 pub mod Fine
 pub mod Within
 pub mod Given

@@ -27,17 +27,21 @@ use Rattle.reader.proofs.ReadLaws.{closed-more, hunt-goes, filled-told, passed-
 use Rattle.reader.proofs.LookLaws.{shut-full, shut-more, to-told, to-not, on-found, look-over, look-waits, look-goes, look-behind, put-current}
 use Rattle.reader.proofs.Kept.{Behind, goesOn, Kept, not-over, begun-behind, finds, found-behind}
 use Rattle.reader.proofs.LookKept.{kept-look, kept-put-back}
-use Rattle.runs.proofs.Tells.{Dues, fromHere, dueSearched, dueIn, dueTo, Tells, Holds, Says, Answers, Same, Step}
+use Rattle.runs.proofs.Tells.{Dues, fromHere, dueSearched, dueIn, dueTo, Tells, Says, Answers, Same, Step}
 use Rattle.runs.proofs.Begun.{at-end, begun-due, begun-tells, tells-with}
 use Rattle.runs.proofs.SearchMarks.{foundAt, SeesBy}
 use Rattle.runs.proofs.Hunt.{none-left, still-due, sees-found, inside-due, outside-found, outside-due, hunts}
 
--- What a look did where d was due: it saw the first of d, which was due from its `>` on, and what is due then is the rest; or the same is due; or
--- the end is.
+-- what is due from the `>` of a reader's record on
+abbrev pub fromStart : (X : List ℕ) (C : ℕ) → Reader → Dues
+fromStart X C r = fromHere X C (r .slots) (r .mark .line) (byteOf r) (suc (byteOf r)) []
+
+-- What a look did where d was due, from the next record's `>` on: it saw the first of d, and what is due then is the rest; or the same is due; or the
+-- end is.
 abbrev pub Sees : Seen → Dues → (X : List ℕ) (C : ℕ) → Reader → (e : List ℕ) → Type 0
-Sees (whole l b) d X C r e = Answers (gives l b) d X C r e × (d ≡ fromHere X C (r .slots) (r .mark .line) (byteOf r) (suc (byteOf r)) [])
-Sees unfinished d X C r e = dueTo X C r e ≡ d
-Sees over d X C r e = (d ≡ meant.ends ∷ []) × (dueTo X C r e ≡ meant.ends ∷ [])
+Sees (whole l b) d X C r e = Answers (gives l b) d X C r e × (d ≡ fromStart X C r)
+Sees unfinished d X C r e = (dueTo X C r e ≡ d) × (d ≡ fromStart X C r)
+Sees over d X C r e = (d ≡ meant.ends ∷ []) × ((dueTo X C r e ≡ meant.ends ∷ []) × (r .phase ≡ phase.Over))
 Sees (denied n) d X C r e = ⊥
 
 -- the relation holds again over the same window, and its end is the same
@@ -47,7 +51,7 @@ pub record Looks (X : List ℕ) (C : ℕ) (r : Reader) (w : List ℕ) (d : Dues)
   pub same : Same r (l .reader)
 
 -- a record that is given is current
-current-of : (l b : ℕ) (r : Reader) (e : List ℕ) (a : meant.Said pass.Mark) → Says (gives l b) a r e → r .phase ≡ phase.Current
+pub current-of : (l b : ℕ) (r : Reader) (e : List ℕ) (a : meant.Said pass.Mark) → Says (gives l b) a r e → r .phase ≡ phase.Current
 current-of l b r e (meant.gives m) k = k .1 .1 .is-current
 current-of l b r e meant.ends k = absurd k
 current-of l b r e (meant.refuses n vs) k = absurd k
@@ -88,12 +92,18 @@ module _ (X : List ℕ) (C : ℕ) (r : Reader) (w e : List ℕ) (t : Tells X C r
   good d q = subst (λ (l : Looked). Good (l .reader) w (l .table)) (goes ∙ q) (kept-look r w e (kept-any r w e t) .is-good)
 
   -- a record is left: the same is due
-  leaves : (m : Mark) (e′ : List ℕ) → looksBehind r w e ≡ leftAhead (withMark m r) e′ → Behind true m e′ → dueSearched X C (withMark m r) e′ ≡ due → Does (looksBehind r w e)
-  leaves m e′ q b same =
+  leaves :
+      (m : Mark) (e′ : List ℕ) →
+      looksBehind r w e ≡ leftAhead (withMark m r) e′ →
+      due ≡ fromStart X C (withMark m r) →
+      Behind true m e′ →
+      dueSearched X C (withMark m r) e′ ≡ due →
+      Does (looksBehind r w e)
+  leaves m e′ q from b same =
       as-looked q
       (record {
         tells = tells-with X C r w e t m phase.Ahead e′ refl (good _ q) (λ s. b);
-        sees = same;
+        sees = (same, from);
         same = record { reaches = refl; end-told = refl; slots-are = refl };
       })
 
@@ -101,7 +111,7 @@ module _ (X : List ℕ) (C : ℕ) (r : Reader) (w e : List ℕ) (t : Tells X C r
   takes :
       (m : Mark) (e′ : List ℕ) →
       looksBehind r w e ≡ lookedAt (withMark m r) e′ →
-      due ≡ fromHere X C (r .slots) (m .line) (base + m .start .0) (suc (base + m .start .0)) [] →
+      due ≡ fromStart X C (withMark m r) →
       Answers (gives (m .line) (base + m .start .0)) due X C (inPhase phase.Current (withMark m r)) e′ →
       Does (looksBehind r w e)
   takes m e′ q from k =
@@ -121,7 +131,7 @@ module _ (X : List ℕ) (C : ℕ) (r : Reader) (w e : List ℕ) (t : Tells X C r
       as-looked q
       (record {
         tells = tells-with X C r w e t (r .mark) phase.Over e refl (good _ q) (λ s. absurd (false≢true s));
-        sees = (none-left X C (r .slots) (r .mark .line + r .mark .count) b (suc b) [] all, refl);
+        sees = (none-left X C (r .slots) (r .mark .line + r .mark .count) b (suc b) [] all, (refl, refl));
         same = record { reaches = refl; end-told = refl; slots-are = refl };
       })
 
@@ -134,7 +144,7 @@ module _ (X : List ℕ) (C : ℕ) (r : Reader) (w e : List ℕ) (t : Tells X C r
     none-yet = begun-behind next w e refl
 
     waits : ready (r .fill) ≡ false → Does (looksBehind r w e)
-    waits u = leaves (next .mark) e (look-waits r w e more u) none-yet due-next
+    waits u = leaves (next .mark) e (look-waits r w e more u) refl none-yet due-next
 
     -- the next record is searched
     module _ (full : ready (r .fill) ≡ true) where
@@ -159,7 +169,7 @@ module _ (X : List ℕ) (C : ℕ) (r : Reader) (w e : List ℕ) (t : Tells X C r
 
       -- a search that stopped without a whole record is kept
       left : looksBehind r w e ≡ leftAhead q (s .ends) → dueSearched X C q (s .ends) ≡ due → Does (looksBehind r w e)
-      left p same = leaves (q .mark) (s .ends) p (found-behind next w e (tells-next .is-good) none-yet) same
+      left p same = leaves (q .mark) (s .ends) p refl (found-behind next w e (tells-next .is-good) none-yet) same
 
       -- nothing of the next record is there yet
       outside : r .fill .filled ≡ r .mark .search .0 → r .fill .told ≡ false → Does (looksBehind r w e)
@@ -223,10 +233,10 @@ module _ (X : List ℕ) (C : ℕ) (r : Reader) (w e : List ℕ) (t : Tells X C r
   look-steps = subst (λ (d : Dues). Looks X C r w d (lookOf r w e)) (sym (ap (λ (p : Phase). dueIn p X C r e) is)) looks
 
   -- A record is put back: due is what is due from its `>` on.
-  abbrev back : Reader
+  abbrev pub back : Reader
   back = inPhase phase.Ahead (withMark (markAt (r .mark .start .0) (r .mark .start .0) 0 (r .mark .line)) r)
 
-  back-is : putBackOf r ≡ back
+  pub back-is : putBackOf r ≡ back
   back-is = put-current r fine (ap isCurrent is)
 
   pub put-back-tells : Tells X C (putBackOf r) w e
@@ -236,19 +246,11 @@ module _ (X : List ℕ) (C : ℕ) (r : Reader) (w e : List ℕ) (t : Tells X C r
       (subst (λ (x : Reader). Good x w e) back-is (kept-put-back r w e (kept-any r w e t) .is-good))
       (λ s. begun-behind back w e refl))
 
-  pub put-back-due : dueTo X C (putBackOf r) e ≡ fromHere X C (r .slots) (r .mark .line) (byteOf r) (suc (byteOf r)) []
+  pub put-back-due : dueTo X C (putBackOf r) e ≡ fromStart X C r
   put-back-due = ap (λ (x : Reader). dueTo X C x e) back-is ∙ begun-due X C r e (r .mark .start .0) (r .mark .line)
 
   pub put-back-same : Same r (putBackOf r)
   put-back-same = subst (Same r) (sym back-is) (record { reaches = refl; end-told = refl; slots-are = refl })
-
--- What was due from a record's `>` on is due again where the record was given and is put back.
-pub put-back-again :
-    (X : List ℕ) (C : ℕ) (r : Reader) (w e : List ℕ) → Tells X C r w e → (m : pass.Mark) → Holds m r e →
-    dueTo X C (putBackOf r) e ≡ fromHere X C (r .slots) (m .line) (m .byte) (suc (m .byte)) []
-put-back-again X C r w e t m k =
-    put-back-due X C r w e t (k .is-current)
-    ∙ (λ i. fromHere X C (r .slots) (sym (k .line-is) i) (sym (k .byte-is) i) (suc (sym (k .byte-is) i)) [])
 
 -- A record that a look saw and that is put back leaves due what was due before the look.
 pub look-put-back :

@@ -20,7 +20,7 @@ use Rattle.reader.specs.State.{byteOf, inPhase}
 use Rattle.reader.specs.Read.{ends, refuses, asked, hunted, passed, whenReady, soughtAt, behind}
 use Rattle.reader.proofs.Sanity.{and-true}
 use Rattle.reader.proofs.ReadLaws.{begins-good, passed-good, sought-mark, sought-astray, behind-ended, behind-next, waits, is-ready, neither}
-use Rattle.runs.proofs.Tells.{judge, unlessOver, atSought, dueIn, isSought, Tells, Step, Hunts, Soughts, Behinds}
+use Rattle.runs.proofs.Tells.{judge, unlessOver, fromHere, atSought, dueIn, isSought, Tells, Step, Hunts, Soughts, Behinds}
 use Rattle.runs.proofs.Begun.{at-rest, ready-full, unready-told, text-byte, from-mark, step-as, begun-due, window-fits, at-end, step-rests, begun-step}
 
 module _ (X : List ℕ) (C : ℕ) (r : Reader) (w e : List ℕ) (t : Tells X C r w e) where
@@ -38,14 +38,16 @@ module _ (X : List ℕ) (C : ℕ) (r : Reader) (w e : List ℕ) (t : Tells X C r
     here : drop (byteOf r) X ≡ getD w start 0 ∷ drop (suc (byteOf r)) X
     here = text-byte X w base (r .fill .filled) (t .text) (window-fits X C r w e t) start there
 
+    pub sought-from : getD w start 0 ≡ 62 → dueIn phase.Sought X C r e ≡ fromHere X C (r .slots) (r .mark .line) (byteOf r) (suc (byteOf r)) []
+    sought-from is =
+        let rest = drop (suc (byteOf r)) X in
+        let mark : drop (byteOf r) X ≡ 62 ∷ rest = here ∙ ap (λ (x : ℕ). x ∷ rest) is in
+        ap (atSought C (r .slots) (r .mark .line) (byteOf r)) mark ∙ sym (from-mark X C (r .slots) (r .mark .line) (byteOf r) rest mark)
+
     sought-begins : Hunts → ready (r .fill) ≡ true → getD w start 0 ≡ 62 → Step X C r (dueIn phase.Sought X C r e) (soughtAt r w e)
     sought-begins hunts full is =
         let m = t .is-good .is-sane in
-        let rest = drop (suc (byteOf r)) X in
-        let mark : drop (byteOf r) X ≡ 62 ∷ rest = here ∙ ap (λ (x : ℕ). x ∷ rest) is in
-        step-as
-        (ap (atSought C (r .slots) (r .mark .line) (byteOf r)) mark ∙ sym (from-mark X C (r .slots) (r .mark .line) (byteOf r) rest mark))
-        (sought-mark r w e there is)
+        step-as (sought-from is) (sought-mark r w e there is)
         (begun-step X C r w e t start (r .mark .line)
         (begins-good r w e (t .is-good) start (r .mark .line) start-filled (m .line-least) (m .line-most)) hunts full)
 
