@@ -1,10 +1,11 @@
 #!/usr/bin/env python3
-"""Writes the gate's cases of `drive`: document 01's bench list at three capacities, its setups, T = 2, and readers altered by hand.
+"""Writes the gate's cases of `drive`: document 01's bench list at three capacities, its setups, T = 2, readers altered by hand, and
+the writers.
 
     python3 tests/drive_cases.py
 
 Writes crates/drive/stdin and crates/drive/stdout. The answers come from tests/compare/model.py, which is written from 01; each line that the
-bench list itself states is checked here besides.
+bench list itself states is checked here besides, and so are the texts of a record's writers.
 """
 import os
 import sys
@@ -209,9 +210,115 @@ def writers():
     yield case
 
 
+# What 01 says of a record's writers, by hand: an input, the number of the record to be written, its texts by `write`, by `write_wrap` at
+# width 3, and by `write_unchanged`.
+WRITTEN = [
+    (b">id d\r\nACG\r\nTACG\r\n", 1, b">id d\nACGTACG\n", b">id d\nACG\nTAC\nG\n", b">id d\r\nACG\r\nTACG\r\n"),  # CRLF
+    (b">id\nAC\nGTA\nC\n", 1, b">id\nACGTAC\n", b">id\nACG\nTAC\n", b">id\nAC\nGTA\nC\n"),  # ends with a full line
+    (b">id\nAC\nG", 1, b">id\nACG\n", b">id\nACG\n", b">id\nAC\nG\n"),  # the last line without `\n`
+    (b">id\nAC\n\n", 1, b">id\nAC\n", b">id\nAC\n", b">id\nAC\n"),  # the bench list's, for `write_unchanged`
+    (b">id\nAC\n\nGT\n", 1, b">id\nACGT\n", b">id\nACG\nT\n", b">id\nAC\n\nGT\n"),  # an empty line inside
+    (b">", 1, b">\n\n", b">\n\n", b">\n"),
+    (b">id", 1, b">id\n\n", b">id\n\n", b">id\n"),
+    (b">id\n", 1, b">id\n\n", b">id\n\n", b">id\n"),  # no line
+    (b">id\n\n", 1, b">id\n\n", b">id\n\n", b">id\n"),  # one line, empty: the copy ends behind the head's `\n`
+    (b">id\n\r\n\n", 1, b">id\n\n", b">id\n\n", b">id\n\r\n"),  # two lines, empty
+    (b"\n>a\nAC\n>b\r\nGT\r\r\nA\n>c", 2, b">b\nGT\rA\n", b">b\nGT\r\nA\n", b">b\r\nGT\r\r\nA\n"),  # among others; one `\r` goes
+]
+
+
+def record_writers():
+    """Each writer of the current record, at the exact room and one byte short of it, before and behind other calls."""
+    for data, number, *texts in WRITTEN:
+        for capacity, step in ((3, 1), (WINDOW, None)):
+            case = Script((capacity, 0, 0, 0, max(capacity, PLENTY), 8), data, step)
+            for _ in range(number):
+                case.read()
+            for what, text in enumerate(texts):
+                for room, wanted in ((len(text), "wrote " + model.hexed(text)), (len(text) - 1, "refused 9 %d" % len(text)),
+                                     (0, "refused 9 %d" % len(text)), (WINDOW, "wrote " + model.hexed(text))):
+                    case.call(7, what, 3, room)
+                    case.say(wanted)
+            # the width is `write_wrap`'s alone, and 10 comes before 9
+            for what, room, wanted in ((0, WINDOW, "wrote " + model.hexed(texts[0])), (1, WINDOW, "refused 10"), (1, 0, "refused 10"),
+                                       (2, WINDOW, "wrote " + model.hexed(texts[2]))):
+                case.call(7, what, 0, room)
+                case.say(wanted)
+            case.call(7, 1, (1 << 64) - 1, WINDOW)
+            case.say("wrote " + model.hexed(texts[0]))
+            yield case
+    yield from (no_record(), bad_state(), *bad_ends())
+
+
+def each_writer(case, wanted, width=3, room=WINDOW):
+    for what in range(3):
+        case.call(7, what, width, room)
+        case.say(wanted)
+
+
+def no_record():
+    """Before the first record, at an ask, behind a seek and at the end there is no record to write: 7, before 10 and 9."""
+    case = Script((3, 0, 0, 0, PLENTY, 8), b">id\nACGT\n")
+    each_writer(case, "refused 7")
+    case.call(1)
+    each_writer(case, "refused 7", 0, 0)
+    case.call(2, 3)
+    case.read()
+    case.say("record 1 0 1")
+    case.call(2, 1)
+    case.say("refused 6")
+    case.call(3, 0, 0)
+    case.say("refused 5")
+    case.call(7, 0, 0, WINDOW)  # these two refusals changed nothing
+    case.say("wrote 3e69640a414347540a")
+    case.call(3, 1, 0)
+    each_writer(case, "refused 7")
+    case.read()
+    case.say("record 1 0 1")
+    case.read()
+    case.say("end")
+    each_writer(case, "refused 7", 0, 0)
+    return case
+
+
+def bad_state():
+    """An altered reader: 11, before 7, 10 and 9."""
+    case = given()
+    for field, value, before in ((0, 2, 64), (4, 0, 2), (4, 9, 2), (2, 16, 10), (5, 0, 4)):
+        case.call(14, field, value)
+        each_writer(case, "refused 11")
+        each_writer(case, "refused 11", 0, 0)
+        case.call(14, field, before)
+        case.call(7, 0, 0, WINDOW)
+        case.say("wrote 3e620a540a")
+    case.read()
+    case.say("end")
+    case.call(14, 5, 0)
+    each_writer(case, "refused 11", 0, 0)  # no record either
+    return case
+
+
+def bad_ends():
+    """Ends that do not rise: `write` and `write_wrap` use all of them, `write_unchanged` the last alone. `>b\\nT\\n` starts at 10, its ends are 12, 14."""
+    for slot, value, unchanged in ((0, 10, "wrote 3e620a540a"), (0, 14, "wrote 3e620a540a"), (0, 99, "wrote 3e620a540a"), (1, 12, "wrote 3e620a"),
+                                   (1, 10, "refused 11"), (1, 16, "refused 11"), (1, (1 << 64) - 1, "refused 11")):
+        case = given()
+        case.call(15, slot, value)
+        for width, room in ((3, WINDOW), (0, 0)):
+            for what in range(2):
+                case.call(7, what, width, room)
+                case.say("refused 11")
+        case.call(7, 2, 0, WINDOW)
+        case.say(unchanged)
+        case.call(15, slot, (12, 14)[slot])
+        case.call(7, 1, 1, WINDOW)
+        case.say("wrote 3e620a540a")
+        yield case
+
+
 def main():
     cases = [case for capacity in (3, 4, WINDOW) for step in (None, 1) for case in bench(capacity, step)]
-    for more in (growth, setups, tables, seeks, altered, writers):
+    for more in (growth, setups, tables, seeks, altered, writers, record_writers):
         cases += more()
     folder = os.path.join(ROOT, "crates", "drive")
     with open(os.path.join(folder, "stdin"), "wb") as file:

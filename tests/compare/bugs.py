@@ -22,6 +22,9 @@ BUGS = (
     Bug("growth", "a size at the limit is no growth", "crates/growth/src/lib.rt",
         "    if next <= size || limit < next {",
         "    if next <= size || limit <= next {"),
+    Bug("wrap", "each line is wrapped by itself", "crates/rewrite/src/wrap.rt",
+        "        let end = put_line(scan::trim_cr(&bytes[from..to]), col, wrap, out, here);",
+        "        let end = put_line(scan::trim_cr(&bytes[from..to]), 0, wrap, out, here);"),
 )
 
 LINKER = """#!/bin/sh

@@ -47,7 +47,7 @@ static bool number_is(size_t want) {
 }
 
 /* inputs: copies that end at a page that may not be touched */
-static struct input { uint8_t *page, *at; const char *text; size_t len; } inputs[INPUTS];
+static struct input { uint8_t *page, *at; const void *data; size_t len; } inputs[INPUTS];
 
 static void make_inputs(void) {
     for (int i = 0; i < INPUTS; i++) {
@@ -60,23 +60,28 @@ static void make_inputs(void) {
     }
 }
 
-/* NULL stands for NULL with length 0 */
-static const uint8_t *lend_input(int i, const char *text) {
+static const void *lend_data(int i, const void *data, size_t len) {
     struct input *in = &inputs[i];
-    in->text = text;
-    in->len = text ? strlen(text) : 0;
-    in->at = text ? in->page + PAGE - in->len : NULL;
-    if (in->len) memcpy(in->at, text, in->len);
+    in->data = data;
+    in->len = len;
+    in->at = data ? in->page + PAGE - len : NULL;
+    if (len) memcpy(in->at, data, len);
     return in->at;
 }
+
+/* NULL stands for NULL with length 0 */
+static const uint8_t *lend_input(int i, const char *text) { return lend_data(i, text, text ? strlen(text) : 0); }
+
+/* line ends: numbers, so the length lent is not that of the bytes */
+static const size_t *lend_ends(int i, const size_t *ends, size_t count) { return lend_data(i, ends, count * sizeof *ends); }
 
 static bool inputs_are(void) {
     bool same = true;
     for (int i = 0; i < INPUTS; i++) {
         struct input *in = &inputs[i];
         if (in->len && plant == WRONG_INPUT) in->at[0]++;
-        if (in->len && memcmp(in->at, in->text, in->len) != 0) same = false;
-        in->text = NULL;
+        if (in->len && memcmp(in->at, in->data, in->len) != 0) same = false;
+        in->data = NULL;
         in->len = 0;
     }
     return same;
@@ -115,7 +120,16 @@ static bool output_is(const char *text) {
 }
 
 /* Every writer is called through one of these, with the same trials of the room: enough and more, just enough, one too few, none with NULL. */
-struct record { const char *head, *id, *desc, *seq; bool with_desc; size_t wrap; };
+struct record {
+    const char *head, *id, *desc, *seq;
+    bool with_desc;
+    size_t wrap;
+    /* the same record as it stands in bytes */
+    const char *bytes;
+    size_t start;
+    const size_t *ends;
+    size_t count;
+};
 typedef uint32_t writer(const struct record *r, size_t *len, uint8_t *out, size_t out_len);
 
 static uint32_t head(const struct record *r, size_t *len, uint8_t *out, size_t out_len) {
@@ -151,6 +165,18 @@ static uint32_t parts(const struct record *r, size_t *len, uint8_t *out, size_t 
 static uint32_t wrap(const struct record *r, size_t *len, uint8_t *out, size_t out_len) {
     const uint8_t *i = lend_input(0, r->id), *d = lend_input(1, r->desc), *s = lend_input(2, r->seq);
     return larizemba_write_wrap(i, inputs[0].len, r->with_desc, d, inputs[1].len, s, inputs[2].len, r->wrap, len, out, out_len);
+}
+
+static uint32_t wrap_seq_iter(const struct record *r, size_t *len, uint8_t *out, size_t out_len) {
+    const uint8_t *b = lend_input(0, r->bytes);
+    const size_t *e = lend_ends(1, r->ends, r->count);
+    return larizemba_write_wrap_seq_iter(b, inputs[0].len, r->start, e, r->count, r->wrap, len, out, out_len);
+}
+
+static uint32_t unchanged(const struct record *r, size_t *len, uint8_t *out, size_t out_len) {
+    const uint8_t *b = lend_input(0, r->bytes);
+    const size_t *e = lend_ends(1, r->ends, r->count);
+    return larizemba_write_unchanged(b, inputs[0].len, r->start, e, r->count, len, out, out_len);
 }
 
 static void call(writer *w, const struct record *r, size_t n, uint32_t want, size_t len, const char *text) {
@@ -263,6 +289,85 @@ static void record_writers(void) {
     done("larizemba_write_wrap");
 }
 
+/* a record in bytes, by its start and its ends: 0 stands for no more of them */
+enum { ENDS = 5 };
+typedef const size_t some_ends[ENDS];
+
+static struct record standing(const char *bytes, size_t start, some_ends ends, size_t width) {
+    struct record r = { .bytes = bytes, .start = start, .ends = ends, .wrap = width };
+    while (ends && r.count < ENDS && ends[r.count]) r.count++;
+    return r;
+}
+
+/* line ends that do not fit come before the width and the room */
+static void refuses_ends(writer *w, struct record r) {
+    const size_t widths[] = { 4, 0 };
+    for (int i = 0; i < 2; i++) {
+        r.wrap = widths[i];
+        call(w, &r, MOST, LARIZEMBA_STATE, 0, "");
+        call(w, &r, 0, LARIZEMBA_STATE, 0, "");
+    }
+}
+
+/* blank lead, CRLF, an empty line, a record behind it */
+#define MIXED "\n>id d\r\nACG\nTA\r\n\nC\n>b\nT\n" /* 24 */
+#define LONG ">" BASES "\n" BASES "\n" BASES                /* 183 */
+
+static some_ends mixed = { 7, 11, 15, 16, 18 }, behind_it = { 21, 23 }, head_alone = { 7 }, two_lines = { 7, 11 };
+static some_ends bench = { 3, 6, 7 }, no_newline = { 3, 8 }, mark_alone = { 1 }, broad_ends = { 61, 122, 183 };
+
+/* what both writers refuse */
+static void refuse_ends(writer *w) {
+    refuses_ends(w, standing(NULL, 0, NULL, 4)); /* nothing at all, NULL twice */
+    refuses_ends(w, standing(MIXED, 1, NULL, 4));
+    refuses_ends(w, standing(MIXED, 1, (some_ends){ 0 }, 4));
+    refuses_ends(w, standing(NULL, 0, mark_alone, 4));
+    refuses_ends(w, standing(MIXED, 1, mark_alone, 4)); /* an end on the start */
+    refuses_ends(w, standing(MIXED, 1, (some_ends){ 7, 25 }, 4)); /* one behind the bytes */
+    refuses_ends(w, standing(MIXED, 1, (some_ends){ SIZE_MAX }, 4));
+    refuses_ends(w, standing(MIXED, 24, (some_ends){ 25 }, 4)); /* a start behind them, too */
+    refuses_ends(w, standing(MIXED, 99, mixed, 4));
+    refuses_ends(w, standing(MIXED, SIZE_MAX, mixed, 4));
+    refuses_ends(w, standing(MIXED, SIZE_MAX, (some_ends){ SIZE_MAX }, 4));
+}
+
+static void standing_writers(void) {
+    writes(wrap_seq_iter, standing(MIXED, 1, mixed, 4), "ACGT\nAC\n");
+    writes(wrap_seq_iter, standing(MIXED, 1, mixed, 3), "ACG\nTAC\n");
+    writes(wrap_seq_iter, standing(MIXED, 1, mixed, 1), "A\nC\nG\nT\nA\nC\n");
+    writes(wrap_seq_iter, standing(MIXED, 1, mixed, SIZE_MAX), "ACGTAC\n");
+    writes(wrap_seq_iter, standing(MIXED, 1, two_lines, 2), "AC\nG\n");
+    writes(wrap_seq_iter, standing(MIXED, 1, head_alone, 4), "\n");
+    writes(wrap_seq_iter, standing(MIXED, 19, behind_it, 4), "T\n");
+    writes(wrap_seq_iter, standing(">id\nAC\n\n", 0, bench, 2), "AC\n");
+    writes(wrap_seq_iter, standing(">id\nACGT", 0, no_newline, 4), "ACGT\n");
+    writes(wrap_seq_iter, standing(">id\n\r", 0, (some_ends){ 3, 5 }, 4), "\n");
+    writes(wrap_seq_iter, standing(">", 0, mark_alone, 4), "\n");
+    writes(wrap_seq_iter, standing(LONG, 0, broad_ends, 60), BASES "\n" BASES "\n");
+    writes(wrap_seq_iter, standing(LONG, 0, broad_ends, 120), BASES BASES "\n");
+    refuses_width_0(wrap_seq_iter, standing(MIXED, 1, mixed, 0));
+    refuses_width_0(wrap_seq_iter, standing(">", 0, mark_alone, 0));
+    refuses_ends(wrap_seq_iter, standing(MIXED, 1, (some_ends){ 7, 11, 11, 16, 18 }, 4)); /* two the same */
+    refuses_ends(wrap_seq_iter, standing(MIXED, 1, (some_ends){ 11, 7, 18 }, 4));         /* falling */
+    refuses_ends(wrap_seq_iter, standing(MIXED, 7, two_lines, 4));                        /* the first not above the start */
+    refuse_ends(wrap_seq_iter);
+    done("larizemba_write_wrap_seq_iter");
+
+    writes(unchanged, standing(MIXED, 1, mixed, 0), ">id d\r\nACG\nTA\r\n\nC\n");
+    writes(unchanged, standing(MIXED, 1, two_lines, 0), ">id d\r\nACG\n");
+    writes(unchanged, standing(MIXED, 1, head_alone, 0), ">id d\r\n");
+    writes(unchanged, standing(MIXED, 19, behind_it, 0), ">b\nT\n");
+    writes(unchanged, standing(">id\nAC\n\n", 0, bench, 0), ">id\nAC\n");
+    writes(unchanged, standing(">id\nACGT", 0, no_newline, 0), ">id\nACGT\n");
+    writes(unchanged, standing(">", 0, mark_alone, 0), ">\n");
+    writes(unchanged, standing(LONG, 0, broad_ends, 0), LONG "\n");
+    /* only the last end is looked at */
+    writes(unchanged, standing(MIXED, 1, (some_ends){ 11, 7, 99, 1, 18 }, 0), ">id d\r\nACG\nTA\r\n\nC\n");
+    refuses_ends(unchanged, standing(MIXED, 1, (some_ends){ 7, 1 }, 0)); /* the last not above the start */
+    refuse_ends(unchanged);
+    done("larizemba_write_unchanged");
+}
+
 /* the growth that is due, 0 for none */
 static void grows(uint64_t kind, size_t n, size_t limit, size_t size, size_t window, size_t want) {
     size_t *next = lend_number();
@@ -346,6 +451,7 @@ int main(int argc, char **argv) {
     setup();
     part_writers();
     record_writers();
+    standing_writers();
     printf("edge: %u checks, %u failed\n", checks, failed);
     return failed != 0;
 }

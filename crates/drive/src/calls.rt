@@ -5,6 +5,7 @@ use crate::out::put_one;
 use crate::out::put_part;
 use crate::out::put_text;
 use crate::out::put_two;
+use crate::record::write_record;
 use crate::script::byte_at;
 use crate::script::front;
 use crate::script::front_ends;
@@ -51,6 +52,7 @@ pub(crate) fn call(
         ),
         4 => position(run, out),
         6 => show(run, operands, window, ends, room, out),
+        7 => write_current(run, operands, window, ends, room, out),
         10 => capacity(run, out),
         11 => grow(run, number_at(operands, 0, 8), out),
         13 => Run {
@@ -341,6 +343,20 @@ fn put_full(
         Full::Room(need) => put_one(out, from, b"refused 9", need as u64),
         Full::State => put_text(out, from, b"refused 11\n"),
     }
+}
+
+// A writer of the current record.
+fn write_current(
+    run: Run,
+    operands: &[u8],
+    window: &[u8],
+    ends: &[usize],
+    room: &mut [u8],
+    out: &mut [u8; 65536],
+) -> Run {
+    let reader = run.reader;
+    let at = write_record(reader, operands, window, ends, room, out, run.at);
+    Run { at, ..run }
 }
 
 // Alters a number of the reader.

@@ -2,6 +2,7 @@
 mod calls;
 mod free;
 mod out;
+mod record;
 mod script;
 
 use calls::Run;

@@ -81,6 +81,7 @@ fn operands(code: u8, bytes: &[u8]) -> usize {
         2 | 11 => 8,
         3 => 16,
         6 => limited(5, bytes, 9, 13),
+        7 => limited(2, bytes, 9, 13),
         13 => limited(9, bytes, 21, free_len(bytes)),
         14 => limited(8, bytes, 9, 9),
         15 => 12,

@@ -17,6 +17,8 @@ use Rattle.edge.specs.Edge.{
   WriteToIs,
   WritePartsIs,
   WriteWrapIs,
+  WriteWrapSeqIterIs,
+  WriteUnchangedIs,
 }
 
 pub grow-to-unique :
@@ -68,3 +70,9 @@ parts-unique id with desc seq out = tells-unique _
 
 pub wrap-unique : (id : List ℕ) (with : Bool) (desc seq : List ℕ) (wrap : ℕ) (out : List ℕ) → Unique (WriteWrapIs id with desc seq wrap out)
 wrap-unique id with desc seq wrap out = tells-unique _
+
+pub wrap-seq-iter-unique : (bytes : List ℕ) (start : ℕ) (ends : List ℕ) (wrap : ℕ) (out : List ℕ) → Unique (WriteWrapSeqIterIs bytes start ends wrap out)
+wrap-seq-iter-unique bytes start ends wrap out = tells-unique _
+
+pub unchanged-unique : (bytes : List ℕ) (start : ℕ) (ends out : List ℕ) → Unique (WriteUnchangedIs bytes start ends out)
+unchanged-unique bytes start ends out = tells-unique _

@@ -14,6 +14,9 @@ use Rattle.reader.specs.declared.state.Reader.{Reader}
 use Rattle.write.specs.Text.{headText, idDescText, seqText, wrapSeqText, toText, partsText, wrapText}
 use Rattle.write.specs.Output.{Answer, wrote, refuses, Left, filled, wrapped, described, left}
 use Rattle.write.specs.declared.Wrote.{Wrote}
+use Rattle.rewrite.specs.Rewrite.{iteratedIn, unchangedIn}
+use Rattle.rewrite.specs.Rewrite as rewrites
+use Rattle.rewrite.specs.declared.Rewrote.{Rewrote}
 use Rattle.edge.specs.declared.policy.Chosen.{Chosen}
 use Rattle.edge.specs.declared.policy.Chosen.the-variants as chosen
 
@@ -107,3 +110,13 @@ WritePartsIs id with desc seq out number len exit = tells number len exit ≡ to
 
 abbrev pub WriteWrapIs : (id : List ℕ) → Bool → (desc seq : List ℕ) (wrap : ℕ) (out : List ℕ) → (number len : ℕ) → (exit : List ℕ) → Type 0
 WriteWrapIs id with desc seq wrap out number len exit = tells number len exit ≡ told (wrapped wrap (wrapText id (described with desc) seq wrap) out)
+
+-- the writers of a record in bytes, whose answers have more cases: what each says is told in the same way
+abbrev pub RecordToldBy : Rewrote → (number len : ℕ) → Type 0
+RecordToldBy r number len = (exit : List ℕ) → tells number len exit ≡ told (rewrites.left r exit)
+
+abbrev pub WriteWrapSeqIterIs : (bytes : List ℕ) (start : ℕ) (ends : List ℕ) (wrap : ℕ) (out : List ℕ) → (number len : ℕ) → (exit : List ℕ) → Type 0
+WriteWrapSeqIterIs bytes start ends wrap out number len exit = tells number len exit ≡ told (iteratedIn bytes start ends wrap out)
+
+abbrev pub WriteUnchangedIs : (bytes : List ℕ) (start : ℕ) (ends out : List ℕ) → (number len : ℕ) → (exit : List ℕ) → Type 0
+WriteUnchangedIs bytes start ends out number len exit = tells number len exit ≡ told (unchangedIn bytes start ends out)
