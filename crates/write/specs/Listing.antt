@@ -20,14 +20,28 @@ unfoldable pub decimal : ℕ → List ℕ
 unfolding decimalIn
 decimal n = decimalIn n n
 
+-- a record's row by its four values
+unfoldable pub rowOf : (line byte : ℕ) (id : List ℕ) (len : ℕ) → List ℕ
+unfolding decimal
+rowOf line byte id len = decimal line ++ (9 ∷ (decimal byte ++ (9 ∷ (id ++ (9 ∷ (decimal len ++ (10 ∷ [])))))))
+
 unfoldable pub row : Rec → List ℕ
-unfolding decimal headOf seqOf idOf
-row r = decimal (r .line) ++ (9 ∷ (decimal (r .byte) ++ (9 ∷ (idOf (headOf r) ++ (9 ∷ (decimal (length (seqOf r)) ++ (10 ∷ [])))))))
+unfolding rowOf headOf seqOf idOf
+row r = rowOf (r .line) (r .byte) (idOf (headOf r)) (length (seqOf r))
+
+-- the last line
+unfoldable pub endText : List ℕ
+unfolding ascii
+endText = ascii "end\n"
+
+unfoldable pub refusedText : (number : ℕ) → List ℕ
+unfolding decimal ascii
+refusedText number = ascii "refused " ++ (decimal number ++ (10 ∷ []))
 
 -- it stops at anything but a record
 unfoldable pub listing : List (Said Rec) → List ℕ
-unfolding row decimal ascii
+unfolding row endText refusedText
 listing [] = []
 listing (gives r ∷ rest) = row r ++ listing rest
-listing (ends ∷ rest) = ascii "end\n"
-listing (refuses number values ∷ rest) = ascii "refused " ++ (decimal number ++ (10 ∷ []))
+listing (ends ∷ rest) = endText
+listing (refuses number values ∷ rest) = refusedText number
