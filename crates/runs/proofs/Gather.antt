@@ -46,7 +46,7 @@ isRecord (meant.gives m) = true
 isRecord meant.ends = false
 isRecord (meant.refuses n vs) = false
 
-abbrev Closed : Dues → Type 0
+abbrev pub Closed : Dues → Type 0
 Closed [] = ⊥
 Closed (a ∷ []) = isRecord a ≡ false
 Closed (a ∷ b ∷ d) = Closed (b ∷ d)
@@ -183,6 +183,10 @@ abbrev pub recordsThen : List Mark → Dues → Dues
 recordsThen [] d = d
 recordsThen (m ∷ ms) d = meant.gives m ∷ recordsThen ms d
 
+pub closed-then : (ms : List Mark) (d : Dues) → Closed d → Closed (recordsThen ms d)
+closed-then [] d c = c
+closed-then (m ∷ ms) d c = closed-more (meant.gives m) (recordsThen ms d) (closed-then ms d c)
+
 then-more : (ms : List Mark) (m : Mark) (d : Dues) → recordsThen (ms ++ (m ∷ [])) d ≡ recordsThen ms (meant.gives m ∷ d)
 then-more [] m d = refl
 then-more (x ∷ ms) m d = ap (λ (l : Dues). meant.gives x ∷ l) (then-more ms m d)
@@ -231,7 +235,7 @@ module _ (X : List ℕ) (C : ℕ) (w : List ℕ) (f : Fill) (T line : ℕ) (D : 
     base-is : g .reader .fill .base .0 ≡ f .base .0
     base-is = ap (λ (x : Fill). x .base .0) fill-is
 
-    puts : Going room (put g) (ms ++ (m ∷ []))
+    pub puts : Going room (put g) (ms ++ (m ∷ []))
     puts =
         let free : g .count + g .count + 2 ≤ length (g .marks) = omega arith in
         let table = put-each (f .base .0) line (g .marks) (g .ends) (g .used) (g .count) (g .reader .mark .start .0) n src long fit free used-is ms m count-is each

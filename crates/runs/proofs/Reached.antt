@@ -1,6 +1,6 @@
 -- Where a run stands: what is still due to the reader is what is left of the answers due since the run's origin. Setup begins so, and every call
 -- keeps it. Assumes nothing.
-use Prim.Native.Nat.{ℕ, suc, _≤_}
+use Prim.Native.Nat.{ℕ, zero, suc, _+_, _≤_}
 use native.Mathlib.Omega.{arith}
 use mathlib.Core.Bool.{Bool, true, false, false≢true}
 use mathlib.Core.List.{List, [], _∷_, map}
@@ -16,13 +16,26 @@ use Rattle.reader.specs.State.{Good}
 use Rattle.reader.specs.Read.{Said, asks, gives, ends, refuses}
 use Rattle.reader.specs.Calls.{Left, setupRefused, setupOf, made, reportOf, seekOf}
 use Rattle.reader.proofs.CallLaws.{test-fitting, setup-made}
+use Rattle.reader.proofs.Kept.{isSearching}
 use Rattle.reader.proofs.NeverState.{kept-made}
-use Rattle.runs.specs.Run.{State, state, Made, reading, afterRead, Brings, Event, read, brought, sought, Run, begun, by-read, by-report, by-seek, by-refused-report, by-refused-seek}
+use Rattle.runs.specs.Run.{State, state, Made, reading, afterRead, Brings, setting, afterSet, Event, read, collected, brought, sought, Run, begun, by-read, by-set, by-report, by-seek, by-refused-report, by-refused-seek}
 use Rattle.runs.specs.Run as run
-use Rattle.runs.specs.Demand.{origin, answers, dueFrom}
-use Rattle.runs.proofs.Tells.{dueIn, dueTo, atSought, Tells, isWindow, isTable, Rests, later, Goes, Answers, Step}
+use Rattle.runs.specs.Demand.{origin, counts, answers, dueFrom}
+use Rattle.set.specs.declared.state.Set.{Set}
+use Rattle.set.specs.Read as set
+use Rattle.set.specs.Read.{Called}
+use Rattle.meaning.specs.Due as meant
+use Rattle.meaning.specs.Input.{Rec}
+use Rattle.meaning.specs.OnePass.{Mark}
+use mathlib.Core.Logic.{inl, inr}
+use lib.Dec.{ltb}
+use borrow.Author.Tests.{eq-eqb, ne-eqb}
+use Rattle.runs.proofs.Tells.{Dues, dueIn, dueTo, atSought, Tells, isWindow, isTable, Rests, later, Goes, Answers, Step}
 use Rattle.runs.proofs.Step.{steps, still-tells}
 use Rattle.runs.proofs.Calls.{taken, tells-report, due-report, rests-report, Sought, seeks, report-refused, seek-refused}
+use Rattle.runs.proofs.Back.{Fresh, read-backs, read-put-back, fresh-report, fresh-other, fresh-put-back}
+use Rattle.runs.proofs.Gather.{Closed, closed-due, closed-then, later-record, recordsThen}
+use Rattle.runs.proofs.SetCall.{Holds, SetGoes, Sets, sets}
 use Rattle.runs.proofs.Fine.{AllFine, fine-later, after, fine-front, said-front, fine-sought, said-sought}
 
 map-later : {A B : Type 0} (f : A → B) (d : List A) → map f (later d) ≡ later (map f d)
@@ -30,12 +43,51 @@ map-later f [] = refl
 map-later f (a ∷ []) = refl
 map-later f (a ∷ b ∷ d) = refl
 
+-- answers after others
+after-add : {A : Type 0} (k n : ℕ) (d : List A) → after (k + n) d ≡ after k (after n d)
+unfolding after
+after-add zero n d = let z : 0 + n ≡ n = omega arith in ap (λ (i : ℕ). after i d) z
+after-add (suc k) n d = let z : suc k + n ≡ suc (k + n) = omega arith in ap (λ (i : ℕ). after i d) z ∙ ap later (after-add k n d)
+
+after-first : {A : Type 0} (k : ℕ) (d : List A) → after (suc k) d ≡ after k (later d)
+unfolding after
+after-first zero d = refl
+after-first (suc k) d = ap later (after-first k d)
+
+-- some records, and what is due behind them
+module _ (X : List ℕ) where
+  after-records : (ms : List Mark) (d : Dues) → Closed d → after (length ms) (map (saidOf X) (recordsThen ms d)) ≡ map (saidOf X) d
+  unfolding after
+  after-records [] d c = refl
+  after-records (m ∷ ms) d c =
+      after-first (length ms) (map (saidOf X) (recordsThen (m ∷ ms) d))
+      ∙ ap (after (length ms)) (sym (map-later (saidOf X) (recordsThen (m ∷ ms) d)) ∙ ap (map (saidOf X)) (later-record m (recordsThen ms d) (closed-then (m ∷ ms) d c)))
+      ∙ after-records ms d c
+
+  fine-records : (ms : List Mark) (d : Dues) → AllFine X (recordsThen ms d) → AllFine X d
+  fine-records [] d f = f
+  fine-records (m ∷ ms) d f = fine-records ms d (f .1)
+
 pub record Reached (X : List ℕ) (C T : ℕ) (h : List Event) (s : State) : Type 0 where
   pub tells : Tells X C (s .reader) (s .window) (s .table)
   pub slots-are : s .reader .slots ≡ T
   pub due-is : map (saidOf X) (dueTo X C (s .reader) (s .table)) ≡ after (answers h) (dueFrom X C T (origin h))
   pub fine : AllFine X (dueTo X C (s .reader) (s .table))
   pub rests : Rests (s .reader)
+  pub fresh : Fresh X C (s .reader) (s .table)
+
+-- the same state after another history in which as much was heard
+with-history :
+    {X : List ℕ} {C T : ℕ} (h₁ h₂ : List Event) (s : State) → answers h₁ ≡ answers h₂ → origin h₁ ≡ origin h₂ → Reached X C T h₁ s → Reached X C T h₂ s
+with-history {X} {C} {T} h₁ h₂ s as-many from k =
+    record {
+      tells = k .tells;
+      slots-are = k .slots-are;
+      due-is = k .due-is ∙ (λ i. after (as-many i) (dueFrom X C T (from i)));
+      fine = k .fine;
+      rests = k .rests;
+      fresh = k .fresh;
+    }
 
 module _ (X : List ℕ) (C T : ℕ) where
   -- a read
@@ -56,6 +108,7 @@ module _ (X : List ℕ) (C T : ℕ) where
           due-is = due-is;
           fine = fine;
           rests = step .rests (k .rests);
+          fresh = read-backs X C (s .reader) (s .window) (s .table) (k .tells) (k .fresh) .fresh;
         }
 
     -- an answer takes one of those due
@@ -98,6 +151,7 @@ module _ (X : List ℕ) (C T : ℕ) where
         due-is = ap (map (saidOf X)) (due-report X C r (s .window) (s .table) (k .tells) n w took b) ∙ k .due-is;
         fine = subst (AllFine X) (sym (due-report X C r (s .window) (s .table) (k .tells) n w took b)) (k .fine);
         rests = rests-report X C r (s .window) (s .table) (k .tells) n w took b (k .rests);
+        fresh = fresh-report X C n r (s .table) (k .fresh);
       })
 
   -- a seek: what is due begins anew
@@ -129,6 +183,7 @@ module _ (X : List ℕ) (C T : ℕ) where
                   at-front = λ is. absurd (false≢true (ap isWindow (sym (f .in-phase)) ∙ is));
                   all-slots = λ is. absurd (false≢true (ap isTable (sym (f .in-phase)) ∙ is));
                 };
+            fresh = fresh-other X C q (s .table) (ap isSearching (f .in-phase));
           })
 
   -- a call that is refused changes nothing
@@ -136,12 +191,84 @@ module _ (X : List ℕ) (C T : ℕ) where
   unfolding answers origin
   same-state h s q n is k =
       subst (λ (o : Reader). Reached X C T (run.refused n ∷ h) (state o (s .window) (s .table))) (sym is)
-      (record { tells = k .tells; slots-are = k .slots-are; due-is = k .due-is; fine = k .fine; rests = k .rests })
+      (record { tells = k .tells; slots-are = k .slots-are; due-is = k .due-is; fine = k .fine; rests = k .rests; fresh = k .fresh })
+
+  -- a set call
+  module _ (t : Set) (B M E : List ℕ) (h : List Event) (s : State) (k : Reached X C T h s) where
+    abbrev called : Called
+    called = setting t B M E s
+
+    abbrev then-at : State
+    then-at = afterSet t B M E s
+
+    call : Sets X C (s .reader) (dueTo X C (s .reader) (s .table)) called
+    call = sets X C (s .reader) (s .window) (s .table) (k .tells) (k .fresh) t B M E
+
+    abbrev L : List (meant.Said Rec)
+    L = dueFrom X C T (origin h)
+
+    reached-called :
+        (a : set.Said) (short : Bool) (n : ℕ) → counts a (answers h) ≡ n → map (saidOf X) (dueTo X C (called .reader) (called .table)) ≡ after n L →
+        AllFine X (dueTo X C (called .reader) (called .table)) → Reached X C T (collected short a ∷ h) then-at
+    unfolding answers origin
+    reached-called a short n as-many due-is fine =
+        record {
+          tells = call .tells;
+          slots-are = call .slots-are ∙ k .slots-are;
+          due-is = due-is ∙ ap (λ (i : ℕ). after i L) (sym as-many);
+          fine = fine;
+          rests = call .rests (k .rests);
+          fresh = call .fresh;
+        }
+
+    -- the same is due
+    as-before : (a : set.Said) (short : Bool) → counts a (answers h) ≡ answers h → dueTo X C (called .reader) (called .table) ≡ dueTo X C (s .reader) (s .table)
+        → Reached X C T (collected short a ∷ h) then-at
+    as-before a short as-many same =
+        reached-called a short (answers h) as-many (ap (map (saidOf X)) same ∙ k .due-is) (subst (AllFine X) (sym same) (k .fine))
+
+    -- one answer more was heard
+    one-more : (a : set.Said) (short : Bool) → counts a (answers h) ≡ suc (answers h)
+        → dueTo X C (called .reader) (called .table) ≡ later (dueTo X C (s .reader) (s .table)) → Reached X C T (collected short a ∷ h) then-at
+    unfolding after
+    one-more a short as-many same =
+        reached-called a short (suc (answers h)) as-many
+        (ap (map (saidOf X)) same ∙ map-later (saidOf X) (dueTo X C (s .reader) (s .table)) ∙ ap later (k .due-is))
+        (subst (AllFine X) (sym same) (fine-later X (dueTo X C (s .reader) (s .table)) (k .fine)))
+
+    -- each record of a set is one
+    its-records : (n filled : ℕ) (short : Bool) → Holds X C n filled (dueTo X C (s .reader) (s .table)) called → Reached X C T (collected short (set.holds n filled) ∷ h) then-at
+    its-records n filled short q =
+        let rest = dueTo X C (called .reader) (called .table) in
+        let closed = closed-due (called .reader .phase) X C (called .reader) (called .table) in
+        reached-called (set.holds n filled) short (n + answers h) refl
+        (sym (after-records X (q .marks-are) rest closed)
+        ∙ ap (λ (d : Dues). after (length (q .marks-are)) (map (saidOf X) d)) (sym (q .due-is))
+        ∙ (λ i. after (q .as-many i) (k .due-is i))
+        ∙ sym (after-add n (answers h) L))
+        (fine-records X (q .marks-are) rest (subst (AllFine X) (q .due-is) (k .fine)))
+
+    refused-with : (n : ℕ) (vs : List ℕ) (short : Bool) → SetGoes (set.refuses n vs) (dueTo X C (s .reader) (s .table)) X C called
+        → Reached X C T (collected short (set.refuses n vs) ∷ h) then-at
+    refused-with n vs short (inl (inl is, same)) = as-before (set.refuses n vs) short (rw (eq-eqb n 11 is)) same
+    refused-with n vs short (inl (inr is, same)) = as-before (set.refuses n vs) short (rw (ne-eqb n 11 (λ e. omega arith), eq-eqb n 12 is)) same
+    refused-with n vs short (inr (few, same)) =
+        one-more (set.refuses n vs) short (rw (ne-eqb n 11 (λ e. omega arith), ne-eqb n 12 (λ e. omega arith))) same
+
+    reached-set : (short : Bool) → Reached X C T (collected short (called .said) ∷ h) then-at
+    reached-set short = go (called .said) (call .goes)
+      where
+        go : (a : set.Said) → SetGoes a (dueTo X C (s .reader) (s .table)) X C called → Reached X C T (collected short a ∷ h) then-at
+        go (set.asks p m o) q = as-before (set.asks p m o) short refl q
+        go (set.holds n filled) q = its-records n filled short q
+        go set.ends q = one-more set.ends short refl q
+        go (set.refuses n vs) q = refused-with n vs short q
 
   -- any run
   pub runs-on : (start : State) → Reached X C T [] start → (h : List Event) (s : State) → Run X start h s → Reached X C T h s
   runs-on start k h s begun = k
   runs-on start k h s (by-read h₁ s₁ q) = reached-read h₁ s₁ (runs-on start k h₁ s₁ q)
+  runs-on start k h s (by-set t B M E h₁ s₁ q) = reached-set t B M E h₁ s₁ (runs-on start k h₁ s₁ q) (ltb (length B) (length (s₁ .window)))
   runs-on start k h s (by-report n w h₁ s₁ q is b) = reached-report n w h₁ s₁ (runs-on start k h₁ s₁ q) is b
   runs-on start k h s (by-seek line byte h₁ s₁ q is) = reached-seek line byte h₁ s₁ (runs-on start k h₁ s₁ q) is
   runs-on start k h s (by-refused-report n number h₁ s₁ q is) =
@@ -195,4 +322,5 @@ module _ (X : List ℕ) (capacity : ℕ) (policy : Policy) (s : State) (is : Mad
         due-is = said-front X C T;
         fine = fine-front X C T;
         rests = record { at-front = λ q. absurd (false≢true q); all-slots = λ q. absurd (false≢true q) };
+        fresh = fresh-other X C (made capacity policy (length (s .window)) T) (s .table) refl;
       })

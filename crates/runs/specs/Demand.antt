@@ -1,12 +1,14 @@
 -- Demand 3: any input, any accepted setup, any cutting into refills: single reads give the whole input's records in order, with the same
 -- head, lines, line number and byte offset, up to the first record that window or table cannot hold. That one is refused, none before it;
 -- without one the end follows. A bad first line is refused instead. After a seek the records from there on follow. Assumes nothing.
-use Prim.Native.Nat.{ℕ, zero, suc, _≤_, _<_}
-use mathlib.Core.Bool.{cond}
+use Prim.Native.Nat.{ℕ, zero, suc, _+_, _≤_, _<_}
+use mathlib.Core.Bool.{cond, _||_}
 use mathlib.Core.List.{List, [], _∷_}
 use mathlib.Core.Option.{some}
 use mathlib.Core.Path.{_≡_}
 use lib.ListN.{length, getD, drop}
+use lib.Dec.{eqb}
+use Rattle.set.specs.Read as set
 use Rattle.growth.specs.declared.Policy.{Policy}
 use Rattle.growth.specs.Chain.{largest}
 use Rattle.meaning.specs.Input.{Rec, begins, records, recordsFrom, meaning}
@@ -21,7 +23,7 @@ use Rattle.view.specs.Full as full
 use Rattle.view.specs.Shows.{Shows}
 use Rattle.view.specs.Current.{ofCurrent, refused, are}
 use Rattle.view.specs.Current as current
-use Rattle.runs.specs.Run.{State, Made, reading, afterRead, Event, read, brought, sought, Run}
+use Rattle.runs.specs.Run.{State, Made, reading, afterRead, Event, read, collected, brought, sought, Run}
 use Rattle.runs.specs.Run as run
 
 -- where the reading began: at the front of the input, or at the place of the last seek
@@ -32,9 +34,17 @@ pub data Origin : Type 0 where
 unfoldable pub origin : List Event → Origin
 origin [] = front
 origin (read a ∷ h) = origin h
+origin (collected short a ∷ h) = origin h
 origin (brought n ∷ h) = origin h
 origin (sought line byte ∷ h) = place line byte
 origin (run.refused number ∷ h) = origin h
+
+-- how many answers a set call stands for: each of its records is one; an ask is none, nor is a refusal of the state or of the set itself
+abbrev pub counts : set.Said → ℕ → ℕ
+counts (set.asks p m o) n = n
+counts (set.holds k filled) n = k + n
+counts set.ends n = suc n
+counts (set.refuses number values) n = cond (eqb number 11 || eqb number 12) n (suc n)
 
 -- how many answers were heard since then; an ask is none
 unfoldable pub answers : List Event → ℕ
@@ -43,6 +53,7 @@ answers (read (asks p m o) ∷ h) = answers h
 answers (read (gives l b) ∷ h) = suc (answers h)
 answers (read ends ∷ h) = suc (answers h)
 answers (read (refuses n vs) ∷ h) = suc (answers h)
+answers (collected short a ∷ h) = counts a (answers h)
 answers (brought n ∷ h) = answers h
 answers (sought line byte ∷ h) = 0
 answers (run.refused number ∷ h) = answers h

@@ -7,13 +7,14 @@ use mathlib.Core.Path.{_≡_}
 use lib.ListN.{length, drop}
 use Rattle.growth.specs.declared.Policy.{Policy}
 use Rattle.reader.specs.Read.{Said, asks, gives, ends, refuses}
-use Rattle.runs.specs.Run.{State, Made, reading, offset, Event, read, brought, sought, refused, Run}
+use Rattle.runs.specs.Run.{State, Made, reading, offset, Event, read, collected, brought, sought, refused, Run}
 use Rattle.runs.specs.Standing.{OnlyAsks}
 
 -- how many reports were taken
 unfoldable pub reports : List Event → ℕ
 reports [] = 0
 reports (read a ∷ h) = reports h
+reports (collected short a ∷ h) = reports h
 reports (brought n ∷ h) = suc (reports h)
 reports (sought l b ∷ h) = reports h
 reports (refused n ∷ h) = reports h

@@ -1,14 +1,19 @@
 -- Runs of a reader (01, "The window and its refills"): reads, reports that bring an input's bytes, and seeks, in any order. What each call
 -- answers and leaves is what the contracts of `next`, `report` and `seek` say. Assumes nothing.
 use Prim.Native.Nat.{ℕ, _+_, _≤_}
+use mathlib.Core.Bool.{Bool}
 use mathlib.Core.List.{List, [], _∷_}
 use mathlib.Core.Option.{none, some}
 use mathlib.Core.Path.{_≡_}
 use lib.ListN.{length, take, drop}
+use lib.Dec.{ltb}
 use Rattle.growth.specs.declared.Policy.{Policy}
 use Rattle.reader.specs.declared.state.Reader.{Reader}
 use Rattle.reader.specs.Read.{Said, Did, readOf}
 use Rattle.reader.specs.Calls.{setupOf, reportOf, seekOf}
+use Rattle.set.specs.declared.state.Set.{Set}
+use Rattle.set.specs.Read as set
+use Rattle.set.specs.Read.{Called, setOf}
 
 -- a reader with its window and its table
 pub record State : Type 0 where
@@ -43,9 +48,20 @@ pub record Brings (X : List ℕ) (n : ℕ) (s : State) (w : List ℕ) : Type 0 w
   pub in-input : n ≤ length (drop (offset s) X)
   pub zero-at-end : n ≡ 0 → drop (offset s) X ≡ []
 
--- what is called and heard: a read and its answer, a report that is taken, a seek that is accepted, a report or a seek that is refused
+-- what a set call says and leaves, over a set with its lent bytes and tables
+abbrev pub setting : Set → (bytes marks ends : List ℕ) → State → Called
+setting t bytes marks ends s = setOf t bytes marks ends (s .reader) (s .window) (s .table)
+
+abbrev pub afterSet : Set → (bytes marks ends : List ℕ) → State → State
+afterSet t bytes marks ends s =
+    let c = setting t bytes marks ends s in
+    state (c .reader) (c .window) (c .table)
+
+-- what is called and heard: a read and its answer, a set call (whether its bytes were too short) and its answer, a report that is taken, a seek that is
+-- accepted, a report or a seek that is refused
 pub data Event : Type 0 where
   read : (heard : Said) → Event
+  collected : (short : Bool) (heard : set.Said) → Event
   brought : (n : ℕ) → Event
   sought : (line byte : ℕ) → Event
   refused : (number : ℕ) → Event
@@ -54,6 +70,10 @@ pub data Event : Type 0 where
 pub data Run (X : List ℕ) (start : State) : List Event → State → Type 0 where
   begun : Run X start [] start
   by-read : (h : List Event) (s : State) → Run X start h s → Run X start (read (reading s .said) ∷ h) (afterRead s)
+  by-set :
+      (t : Set) (bytes marks ends : List ℕ) (h : List Event) (s : State) →
+      Run X start h s →
+      Run X start (collected (ltb (length bytes) (length (s .window))) (setting t bytes marks ends s .said) ∷ h) (afterSet t bytes marks ends s)
   by-report :
       (n : ℕ) (w : List ℕ) (h : List Event) (s : State) →
       Run X start h s →

@@ -8,7 +8,7 @@ use Rattle.growth.specs.declared.Policy.{Policy}
 use Rattle.growth.specs.Chain.{largest}
 use Rattle.window.specs.Fill.{most}
 use Rattle.reader.specs.Read.{asks, gives, ends, refuses}
-use Rattle.runs.specs.Run.{State, Made, Event, read, brought, sought, refused, Run}
+use Rattle.runs.specs.Run.{State, Made, Event, read, collected, brought, sought, refused, Run}
 use Rattle.runs.specs.Demand.{front, answers, dueFrom}
 
 -- The count that a caller brings who wishes for some: at least 1, no more than the room and the bytes left; so 0 at the input's end only. Every
@@ -23,6 +23,7 @@ roomOf (read (asks p m o) ∷ h) = m
 roomOf (read (gives l b) ∷ h) = 0
 roomOf (read ends ∷ h) = 0
 roomOf (read (refuses n vs) ∷ h) = 0
+roomOf (collected short a ∷ h) = 0
 roomOf (brought n ∷ h) = 0
 roomOf (sought l b ∷ h) = 0
 roomOf (refused n ∷ h) = 0
@@ -33,6 +34,7 @@ offsetOf (read (asks p m o) ∷ h) = o
 offsetOf (read (gives l b) ∷ h) = 0
 offsetOf (read ends ∷ h) = 0
 offsetOf (read (refuses n vs) ∷ h) = 0
+offsetOf (collected short a ∷ h) = 0
 offsetOf (brought n ∷ h) = 0
 offsetOf (sought l b ∷ h) = 0
 offsetOf (refused n ∷ h) = 0
@@ -41,6 +43,7 @@ offsetOf (refused n ∷ h) = 0
 abbrev pub Follows : (X : List ℕ) (wish : List Event → ℕ) → List Event → Type 0
 Follows X wish [] = Unit {0}
 Follows X wish (read a ∷ h) = Follows X wish h
+Follows X wish (collected short a ∷ h) = ⊥
 Follows X wish (brought n ∷ h) = (n ≡ count (wish h) (roomOf h) (length (drop (offsetOf h) X))) × Follows X wish h
 Follows X wish (sought l b ∷ h) = ⊥
 Follows X wish (refused n ∷ h) = ⊥
@@ -52,6 +55,7 @@ Closed (read (asks p m o) ∷ h) = ⊥
 Closed (read (gives l b) ∷ h) = ⊥
 Closed (read ends ∷ h) = Unit {0}
 Closed (read (refuses n vs) ∷ h) = Unit {0}
+Closed (collected short a ∷ h) = ⊥
 Closed (brought n ∷ h) = ⊥
 Closed (sought l b ∷ h) = ⊥
 Closed (refused n ∷ h) = ⊥

@@ -16,7 +16,8 @@ use Rattle.reader.specs.declared.state.Phase.{Phase}
 use Rattle.reader.specs.declared.state.Phase.the-variants as phase
 use Rattle.reader.specs.State.{byteOf, sane, lentAs, rising}
 use Rattle.reader.specs.Read.{Said, asks, gives, ends, refuses, placed}
-use Rattle.runs.specs.Run.{State, reading, Event, read, brought, sought, refused, Run}
+use Rattle.runs.specs.Run.{State, reading, Event, read, collected, brought, sought, refused, Run}
+use Rattle.set.specs.Read as set
 
 -- the bytes of a record from its search place on: to the first `\n` before a `>`, or to the end
 unfoldable pub own : List ℕ → List ℕ
@@ -95,6 +96,10 @@ OnlyAsks (read (asks p m o) ∷ h) = OnlyAsks h
 OnlyAsks (read (gives l b) ∷ h) = ⊥
 OnlyAsks (read ends ∷ h) = ⊥
 OnlyAsks (read (refuses n vs) ∷ h) = ⊥
+OnlyAsks (collected short (set.asks p m o) ∷ h) = OnlyAsks h
+OnlyAsks (collected short (set.holds k filled) ∷ h) = ⊥
+OnlyAsks (collected short set.ends ∷ h) = ⊥
+OnlyAsks (collected short (set.refuses n vs) ∷ h) = ⊥
 OnlyAsks (brought n ∷ h) = OnlyAsks h
 OnlyAsks (sought l b ∷ h) = ⊥
 OnlyAsks (refused n ∷ h) = OnlyAsks h

@@ -1,0 +1,261 @@
+-- One set call (01, module 6 and refusal 12): its records are the next ones due, in order; an ask, the end and refusals 2 to 5 are those of a read; and a
+-- refusal of the state or of the set leaves what is due. Assumes nothing.
+use Prim.Native.Nat.{ℕ, zero, suc, _+_, _≤_, _<_}
+use native.Mathlib.Omega.{arith}
+use mathlib.Core.Bool.{Bool, true, false, cond, _&&_, _||_, false≢true}
+use mathlib.Core.List.{List, [], _∷_, _++_}
+use mathlib.Core.Logic.{_⊎_, inl, inr}
+use mathlib.Core.Option.{Option, none, some, Option·none-ne-some, Option·some-injective}
+use mathlib.Core.Path.{_≡_, refl, sym, ap, subst, _∙_}
+use lib.ListN.{length, drop}
+use lib.Dec.{eqb, ltb, leb}
+use borrow.Author.Tests.{leb-true}
+use Rattle.meaning.specs.Due as meant
+use Rattle.meaning.specs.Due.{dueBy}
+use Rattle.meaning.specs.OnePass.{Mark, Marked, good, bad, marks, leadMarks, tableMark, judgedMark, placeMark, dueMarks}
+use Rattle.meaning.proofs.Due.{due-gives, due-refuses}
+use Rattle.window.specs.declared.fill.Fill.{Fill}
+use Rattle.reader.specs.declared.state.Reader.{Reader}
+use Rattle.reader.specs.declared.state.Phase.{Phase}
+use Rattle.reader.specs.declared.state.Phase.the-variants as phase
+use Rattle.reader.specs.State.{byteOf, sane, lentAs, isCurrent}
+use Rattle.reader.specs.Read.{Said, asks, gives, ends, refuses, Did, readOf}
+use Rattle.reader.specs.Look.{putBackOf}
+use Rattle.reader.proofs.Sanity.{sane-true}
+use Rattle.reader.proofs.ReadLaws.{lent-true}
+use Rattle.reader.proofs.Kept.{goesOn, isSearching}
+use Rattle.reader.proofs.LookLaws.{put-current}
+use Rattle.set.specs.declared.state.Set.{Set}
+use Rattle.set.specs.Set.{sound}
+use Rattle.set.specs.Read as set
+use Rattle.set.specs.Read.{Gathered, Called, fits, put, gather, pairs, emptied, leaves, refused12, filledWith, collectedIn, afterRead, setOf}
+use Rattle.runs.proofs.Tells.{Dues, judge, unlessOver, fromHere, endsOf, dueSearched, atSought, dueIn, dueTo, later, isWindow, isTable, Rests, Tells, Says, Answers, Goes, Same, Step}
+use Rattle.runs.proofs.Begun.{at-rest}
+use Rattle.runs.proofs.Step.{steps, still-tells}
+use Rattle.runs.proofs.Look.{put-back-tells}
+use Rattle.runs.proofs.Back.{Fresh, read-backs, read-put-back, fresh-put-back}
+use Rattle.runs.proofs.SetTable.{Each}
+use Rattle.runs.proofs.Gather.{closed-due, Given, given, recordsThen, Gathers, Going, puts, All, gathers-all}
+
+-- ---- a refusal that is due has a number of at most 5
+
+abbrev Small : Dues → Type 0
+Small [] = Unit {0}
+Small (meant.gives m ∷ d) = Small d
+Small (meant.ends ∷ d) = Small d
+Small (meant.refuses n vs ∷ d) = (n ≤ 5) × Small d
+
+small-judged : (C T : ℕ) (m : Mark) (n : ℕ) → judgedMark C T m ≡ some n → n ≤ 5
+unfolding judgedMark
+small-judged C T m n = go (tableMark C T m) (ltb C (m .len + 1))
+  where
+    go : (t u : Bool) → cond {A = Option ℕ} t (some 4) (cond u (some 3) none) ≡ some n → n ≤ 5
+    go true u is = let z : 4 ≡ n = Option·some-injective 4 n is in omega arith
+    go false true is = let z : 3 ≡ n = Option·some-injective 3 n is in omega arith
+    go false false is = absurd (Option·none-ne-some n is)
+
+small-judge : (C T : ℕ) (ms : List Mark) → Small (judge C T ms)
+unfolding dueBy
+small-judge C T [] = tt
+small-judge C T (m ∷ ms) = go (judgedMark C T m) refl (small-judge C T ms)
+  where
+    go : (o : Option ℕ) → judgedMark C T m ≡ o → Small (judge C T ms) → Small (judge C T (m ∷ ms))
+    go none o k = subst Small (sym (due-gives (judgedMark C T) placeMark m ms o)) k
+    go (some n) o k = subst Small (sym (due-refuses (judgedMark C T) placeMark m ms n o)) (small-judged C T m n o, tt)
+
+small-unless : (xs : List ℕ) (d : Dues) → Small d → Small (unlessOver xs d)
+small-unless [] d k = tt
+small-unless (x ∷ xs) d k = k
+
+small-marked : (C T : ℕ) (M : Marked) → Small (dueMarks C T M)
+unfolding dueMarks
+small-marked C T (good ms) = small-judge C T ms
+small-marked C T (bad l x) = (omega arith, tt)
+
+small-sought : (C T l b : ℕ) (xs : List ℕ) → Small (atSought C T l b xs)
+small-sought C T l b [] = (omega arith, tt)
+small-sought C T l b (x ∷ xs) = go (eqb x 62)
+  where
+    go : (t : Bool) → Small (cond t (judge C T (marks l b (suc b) [] xs false)) (meant.refuses 5 [] ∷ []))
+    go true = small-judge C T (marks l b (suc b) [] xs false)
+    go false = (omega arith, tt)
+
+small-here : (X : List ℕ) (C T l b p : ℕ) (E : List ℕ) → Small (fromHere X C T l b p E)
+small-here X C T l b p E = small-unless (drop b X) (judge C T (marks l b p E (drop p X) false)) (small-judge C T (marks l b p E (drop p X) false))
+
+small-due : (p : Phase) (X : List ℕ) (C : ℕ) (r : Reader) (e : List ℕ) → Small (dueIn p X C r e)
+small-due phase.Lead X C r e = small-marked C (r .slots) (leadMarks (r .mark .line) (byteOf r) (drop (byteOf r) X) false)
+small-due phase.Sought X C r e = small-sought C (r .slots) (r .mark .line) (byteOf r) (drop (byteOf r) X)
+small-due phase.Searching X C r e = small-here X C (r .slots) (r .mark .line) (byteOf r) (r .fill .base .0 + goesOn (r .mark)) (endsOf r e)
+small-due phase.Current X C r e =
+    let b = r .fill .base .0 + r .mark .search .0 in
+    small-here X C (r .slots) (r .mark .line + r .mark .count) b (suc b) []
+small-due phase.Ended X C r e = tt
+small-due phase.Over X C r e = tt
+small-due phase.Window X C r e = (omega arith, tt)
+small-due phase.Table X C r e = (omega arith, tt)
+small-due phase.Astray X C r e = (omega arith, tt)
+small-due phase.Ahead X C r e = small-here X C (r .slots) (r .mark .line) (byteOf r) (r .fill .base .0 + goesOn (r .mark)) (endsOf r e)
+
+small-first : (n : ℕ) (vs : List ℕ) (a : meant.Said Mark) (rest : Dues) (r : Reader) (e : List ℕ) → Small (a ∷ rest) → Says (refuses n vs) a r e → n ≤ 5
+small-first n vs (meant.gives m) rest r e k q = absurd q
+small-first n vs meant.ends rest r e k q = absurd q
+small-first n vs (meant.refuses m us) rest r e k q = omega (arith, k .0, q .0)
+
+-- ---- what a set call does to what is due
+
+-- the records of a set, by their marks: they were due first, and stand in its tables
+pub record Holds (X : List ℕ) (C : ℕ) (k filled : ℕ) (D : Dues) (c : Called) : Type 0 where
+  pub marks-are : List Mark
+  pub used : ℕ
+  pub as-many : length marks-are ≡ k
+  pub some-record : 1 ≤ k
+  pub due-is : D ≡ recordsThen marks-are (dueTo X C (c .reader) (c .table))
+  pub each : Each (c .set .base .0) (c .set .line) (c .marks) (c .ends) used 0 marks-are
+  pub in-table : used ≤ length (c .ends)
+
+abbrev pub SetGoes : set.Said → Dues → (X : List ℕ) (C : ℕ) → Called → Type 0
+SetGoes (set.asks p m o) D X C c = dueTo X C (c .reader) (c .table) ≡ D
+SetGoes (set.holds k filled) D X C c = Holds X C k filled D c
+SetGoes set.ends D X C c = dueTo X C (c .reader) (c .table) ≡ later D
+SetGoes (set.refuses n vs) D X C c =
+    (((n ≡ 11) ⊎ (n ≡ 12)) × (dueTo X C (c .reader) (c .table) ≡ D)) ⊎ ((n ≤ 5) × (dueTo X C (c .reader) (c .table) ≡ later D))
+
+pub record Sets (X : List ℕ) (C : ℕ) (r : Reader) (D : Dues) (c : Called) : Type 0 where
+  pub tells : Tells X C (c .reader) (c .window) (c .table)
+  pub slots-are : c .reader .slots ≡ r .slots
+  pub rests : Rests r → Rests (c .reader)
+  pub fresh : Fresh X C (c .reader) (c .table)
+  pub goes : SetGoes (c .said) D X C c
+
+module _ (X : List ℕ) (C : ℕ) (r : Reader) (w e : List ℕ) (t : Tells X C r w e) (fresh : Fresh X C r e) (s : Set) (B M E : List ℕ) where
+  abbrev D : Dues
+  D = dueTo X C r e
+
+  abbrev d : Did
+  d = readOf r w e
+
+  abbrev c : Called
+  c = setOf s B M E r w e
+
+  abbrev Does : Called → Type 0
+  Does = Sets X C r D
+
+  step : Step X C r D d
+  step = steps X C r w e t
+
+  tells-then : Tells X C (d .reader) (d .window) (d .table)
+  tells-then = still-tells X C r w e t
+
+  -- the cases of the call
+  tested : (sane r && lentAs r (length w) (length e) && sound s (length B) (length M)) ≡ sound s (length B) (length M)
+  tested = rw (sane-true r (t .is-good .is-sane), lent-true r w e (t .is-good .window-lent) (t .is-good .table-lent))
+
+  unsound : sound s (length B) (length M) ≡ false → c ≡ leaves s B M E (set.refuses 11 []) r w e s
+  unfolding setOf
+  unsound u = rw (tested ∙ u)
+
+  short : sound s (length B) (length M) ≡ true → ltb (length B) (length w) ≡ true → c ≡ refused12 s B M E r w e
+  unfolding setOf
+  short u v = rw (tested ∙ u, v)
+
+  reads : sound s (length B) (length M) ≡ true → ltb (length B) (length w) ≡ false → c ≡ afterRead s B M E (d .said) d
+  unfolding setOf
+  reads u v = rw (tested ∙ u, v)
+
+  -- nothing changes
+  stays : (a : set.Said) (q : Set) → SetGoes a D X C (leaves s B M E a r w e q) → Does (leaves s B M E a r w e q)
+  stays a q goes = record { tells = t; slots-are = refl; rests = λ k. k; fresh = fresh; goes = goes }
+
+  -- as a read, the set's slices untouched
+  as-read : (a : set.Said) (q : Set) → SetGoes a D X C (leaves s B M E a (d .reader) (d .window) (d .table) q) → Does (leaves s B M E a (d .reader) (d .window) (d .table) q)
+  as-read a q goes =
+      record {
+        tells = tells-then;
+        slots-are = step .same .slots-are;
+        rests = step .rests;
+        fresh = read-backs X C r w e t fresh .fresh;
+        goes = goes;
+      }
+
+  -- the next record was found
+  module _ (l b : ℕ) (is : d .said ≡ gives l b) where
+    first : Given X C l b D (d .reader) (d .table)
+    first =
+        given X C l b D (d .reader) (d .table) (closed-due (r .phase) X C r e)
+        (subst (λ (a : Said). Goes a D X C (d .reader) (d .table)) is (step .goes))
+
+    at-phase : d .reader .phase ≡ phase.Current
+    at-phase = first .holds .is-current
+
+    -- it does not fit: the next read gives it
+    refused : Does (refused12 s B M E (putBackOf (d .reader)) (d .window) (d .table))
+    refused =
+        let same = put-current (d .reader) (sane-true (d .reader) (tells-then .is-good .is-sane)) (ap isCurrent at-phase) in
+        record {
+          tells = put-back-tells X C (d .reader) (d .window) (d .table) tells-then at-phase;
+          slots-are = ap (λ (o : Reader). o .slots) same ∙ step .same .slots-are;
+          rests =
+              λ k. at-rest (putBackOf (d .reader)) (ap (λ (o : Reader). isWindow (o .phase)) same) (ap (λ (o : Reader). isTable (o .phase)) same);
+          fresh = fresh-put-back X C (d .reader) (d .window) (d .table) tells-then at-phase;
+          goes = inl (inr refl, read-put-back X C r w e t fresh l b is);
+        }
+
+    abbrev begun : Gathered
+    begun = record { reader = d .reader; table = d .table; count = 0; used = 0; marks = M; ends = E }
+
+    pairs-room : (ms : List ℕ) → pairs ms + pairs ms ≤ length ms
+    pairs-room [] = omega arith
+    pairs-room (x ∷ []) = omega arith
+    pairs-room (x ∷ y ∷ ms) = omega (arith, pairs-room ms)
+
+    -- it and those behind it are put into the set
+    filled : (room : ℕ) → pairs M ≡ suc room → fits begun ≡ true → Does (filledWith s B M E d (gather room (d .window) (put begun)))
+    filled room left fit =
+        let D₀ = D in
+        let going : Going X C (d .window) (d .reader .fill) (d .reader .slots) (d .reader .mark .line) D₀ room (put begun) (first .mark ∷ []) =
+        puts X C (d .window) (d .reader .fill) (d .reader .slots) (d .reader .mark .line) D₀ room begun [] (first .mark) (first .holds) tells-then refl refl
+        (let z : d .reader .mark .line ≡ d .reader .mark .line + 0 = omega arith in z) refl refl tt (first .due-is)
+        (omega (arith, pairs-room M, left)) (leb-true (0 + d .reader .mark .count) (length E) fit) in
+        let all = gathers-all X C (d .window) (d .reader .fill) (d .reader .slots) (d .reader .mark .line) D₀ room (put begun) (first .mark ∷ []) going in
+        let g = all .gathers in
+        record {
+          tells = g .tells;
+          slots-are = g .slots-are ∙ step .same .slots-are;
+          rests = λ k. g .rests;
+          fresh = g .fresh;
+          goes =
+              record {
+                marks-are = first .mark ∷ all .more;
+                used = _;
+                as-many = g .count-is;
+                some-record = omega (arith, g .count-is);
+                due-is = g .due-is;
+                each = g .each;
+                in-table = g .used-fits;
+              };
+        }
+
+    collected : (room : ℕ) → pairs M ≡ room → Does (collectedIn s B M E room d)
+    collected zero left = refused
+    collected (suc room) left = go (fits begun) refl
+      where
+        go : (u : Bool) → fits begun ≡ u → Does (cond u (filledWith s B M E d (gather room (d .window) (put begun))) (refused12 s B M E (putBackOf (d .reader)) (d .window) (d .table)))
+        go true u = filled room left u
+        go false u = refused
+
+  after-read : (a : Said) → d .said ≡ a → Goes a D X C (d .reader) (d .table) → Does (afterRead s B M E a d)
+  after-read (asks p m o) is q = as-read (set.asks p m o) (emptied s) (q .0)
+  after-read (gives l b) is q = collected l b is (pairs M) refl
+  after-read ends is q = as-read set.ends (emptied s) (q .then-due)
+  after-read (refuses n vs) is q =
+      as-read (set.refuses n vs) _
+      (inr (small-first n vs (q .first) (q .rest) (d .reader) (d .table) (subst Small (q .due-is) (small-due (r .phase) X C r e)) (q .says), q .then-due))
+
+  pub sets : Does c
+  sets = go (sound s (length B) (length M)) refl (ltb (length B) (length w)) refl
+    where
+      go : (u : Bool) → sound s (length B) (length M) ≡ u → (v : Bool) → ltb (length B) (length w) ≡ v → Does c
+      go false u v x = subst Does (sym (unsound u)) (stays (set.refuses 11 []) s (inl (inl refl, refl)))
+      go true u true x = subst Does (sym (short u x)) (stays (set.refuses 12 []) (emptied s) (inl (inr refl, refl)))
+      go true u false x = subst Does (sym (reads u x)) (after-read (d .said) refl (step .goes))
