@@ -29,12 +29,14 @@ use Rattle.reader.specs.Read.{Said, gives, ends, refuses, asks, reached, search
 use Rattle.reader.specs.Look.{Seen, whole, unfinished, over, denied, Looked, lookedTo, looksBehind, lookOf, putBackOf}
 use Rattle.reader.proofs.Sanity.{and-true, sane-true}
 use Rattle.reader.proofs.ReadLaws.{lent-true}
-use Rattle.reader.proofs.Kept.{goesOn}
+use Rattle.reader.proofs.Kept.{isSearching, goesOn}
 use Rattle.reader.proofs.LookLaws.{shut-full, shut-more, to-told, to-not, on-found, look-over, look-waits, look-goes, look-behind, put-current}
 use Rattle.set.specs.Set.{endsBefore}
 use Rattle.set.specs.Read.{Gathered, gatheredBy, fits, put, back, gather}
-use Rattle.runs.proofs.Tells.{Dues, judge, unlessOver, atSought, fromHere, endsOf, dueSearched, dueIn, dueTo, later, Tells, Holds, Says, Answers, Same}
+use Rattle.runs.proofs.Tells.{Dues, judge, unlessOver, atSought, fromHere, endsOf, dueSearched, dueIn, dueTo, later, isWindow, isTable, Rests, Tells, Holds, Says, Answers, Same}
 use Rattle.runs.proofs.Look.{Sees, Looks, look-steps, put-back-tells, put-back-same, look-put-back}
+use Rattle.runs.proofs.Begun.{at-rest}
+use Rattle.runs.proofs.Back.{Fresh, fresh-other, fresh-look, fresh-put-back}
 use Rattle.runs.proofs.SetTable.{Each, marks′, used-then, put-each}
 
 -- ---- what is due ends with something other than a record
@@ -118,6 +120,7 @@ record Next (r : Reader) (d : Looked) : Type 0 where
   fill-same : d .reader .fill ≡ r .fill
   slots-same : d .reader .slots ≡ r .slots
   next-line : isWhole (d .seen) ≡ true → d .reader .mark .line ≡ r .mark .line + r .mark .count
+  not-refused : (isWindow (d .reader .phase) ≡ false) × (isTable (d .reader .phase) ≡ false)
 
 module _ (r : Reader) (w e : List ℕ) where
   abbrev s : Recorded
@@ -130,16 +133,16 @@ module _ (r : Reader) (w e : List ℕ) where
   as-next is k = subst (Next r) (sym is) k
 
   next-stop : (o : Stop) → Next r (lookedTo o q (s .ends))
-  next-stop stop.Record = record { fill-same = refl; slots-same = refl; next-line = λ is. refl }
-  next-stop stop.Full = record { fill-same = refl; slots-same = refl; next-line = λ is. refl }
+  next-stop stop.Record = record { fill-same = refl; slots-same = refl; next-line = λ is. refl; not-refused = (refl, refl) }
+  next-stop stop.Full = record { fill-same = refl; slots-same = refl; next-line = λ is. refl; not-refused = (refl, refl) }
   next-stop stop.Filled = go (r .fill .told) refl (decLe (r .slots) (s .out .count))
     where
       go : (u : Bool) → r .fill .told ≡ u → Dec (r .slots ≤ s .out .count) → Next r (lookedTo stop.Filled q (s .ends))
-      go false u d = as-next (to-not q (s .ends) u) (record { fill-same = refl; slots-same = refl; next-line = λ is. refl })
+      go false u d = as-next (to-not q (s .ends) u) (record { fill-same = refl; slots-same = refl; next-line = λ is. refl; not-refused = (refl, refl) })
       go true u (yes d) =
-          as-next (to-told q (s .ends) u ∙ shut-full q (s .ends) d) (record { fill-same = refl; slots-same = refl; next-line = λ is. refl })
+          as-next (to-told q (s .ends) u ∙ shut-full q (s .ends) d) (record { fill-same = refl; slots-same = refl; next-line = λ is. refl; not-refused = (refl, refl) })
       go true u (no d) =
-          as-next (to-told q (s .ends) u ∙ shut-more q (s .ends) (omega arith)) (record { fill-same = refl; slots-same = refl; next-line = λ is. refl })
+          as-next (to-told q (s .ends) u ∙ shut-more q (s .ends) (omega arith)) (record { fill-same = refl; slots-same = refl; next-line = λ is. refl; not-refused = (refl, refl) })
 
   next-behind : Next r (looksBehind r w e)
   next-behind = go (r .fill .told && eqb (r .mark .search .0) (r .fill .filled)) refl (ready (r .fill)) refl
@@ -148,8 +151,8 @@ module _ (r : Reader) (w e : List ℕ) where
       go true u v p =
           let both = and-true (r .fill .told) (eqb (r .mark .search .0) (r .fill .filled)) u in
           as-next (look-over r w e (both .0) (eqb-true (r .mark .search .0) (r .fill .filled) (both .1)))
-          (record { fill-same = refl; slots-same = refl; next-line = λ is. absurd (false≢true is) })
-      go false u false p = as-next (look-waits r w e u p) (record { fill-same = refl; slots-same = refl; next-line = λ is. refl })
+          (record { fill-same = refl; slots-same = refl; next-line = λ is. absurd (false≢true is); not-refused = (refl, refl) })
+      go false u false p = as-next (look-waits r w e u p) (record { fill-same = refl; slots-same = refl; next-line = λ is. refl; not-refused = (refl, refl) })
       go false u true p = as-next (look-goes r w e u p ∙ on-found (passed r) w e s refl) (next-stop (s .out .stop))
 
   next-look : Good r w e → r .phase ≡ phase.Current → Next r (lookOf r w e)
@@ -195,6 +198,8 @@ module _ (X : List ℕ) (C : ℕ) (w : List ℕ) (f : Fill) (T line : ℕ) (D : 
     pub used-fits : g .used ≤ length (g .ends)
     pub each : Each (f .base .0) line (g .marks) (g .ends) (g .used) 0 ms
     pub due-is : D ≡ recordsThen ms (dueTo X C (g .reader) (g .table))
+    pub rests : Rests (g .reader)
+    pub fresh : Fresh X C (g .reader) (g .table)
 
   -- a reader on its way: its record is current, the last one put, and there is room for so many more
   pub record Going (room : ℕ) (g : Gathered) (ms : List Mark) : Type 0 where
@@ -245,6 +250,8 @@ module _ (X : List ℕ) (C : ℕ) (w : List ℕ) (f : Fill) (T line : ℕ) (D : 
                 used-fits = omega (arith, length-pasted (g .used) src (g .ends) (omega (arith, long)));
                 each = table;
                 due-is = due-is ∙ sym (then-more ms m (dueTo X C (g .reader) (g .table)));
+                rests = at-rest (g .reader) (ap isWindow (k .is-current)) (ap isTable (k .is-current));
+                fresh = fresh-other X C (g .reader) (g .table) (ap isSearching (k .is-current));
               };
           is-current = k .is-current;
           next-line = omega arith;
@@ -302,8 +309,8 @@ module _ (X : List ℕ) (C : ℕ) (w : List ℕ) (f : Fill) (T line : ℕ) (D : 
 
     -- the same is due, in another phase
     stays : (x : Reader) (e : List ℕ) → Tells X C x w e → x .fill ≡ r .fill → x .slots ≡ r .slots → dueTo X C x e ≡ dueTo X C r (g .table)
-        → Gathers (gatheredBy x e g) ms
-    stays x e t fill slots same =
+        → Rests x → Fresh X C x e → Gathers (gatheredBy x e g) ms
+    stays x e t fill slots same rests fresh =
         record {
           tells = t;
           fill-is = fill ∙ k .gathers .fill-is;
@@ -313,18 +320,21 @@ module _ (X : List ℕ) (C : ℕ) (w : List ℕ) (f : Fill) (T line : ℕ) (D : 
           used-fits = k .gathers .used-fits;
           each = k .gathers .each;
           due-is = k .gathers .due-is ∙ ap (recordsThen ms) (sym same);
+          rests = rests;
+          fresh = fresh;
         }
 
     -- nothing more is whole
     stops : isWhole (seenIn g .seen) ≡ false → Gathers (then′ g) ms
     stops no′ = stays (seenIn g .reader) (seenIn g .table) (step .tells) (next .fill-same) (next .slots-same) (go (seenIn g .seen) (step .sees) no′)
+        (at-rest (seenIn g .reader) (next .not-refused .0) (next .not-refused .1)) (fresh-look X C r w (g .table) (k .gathers .tells) (k .is-current))
       where
         go : (a : Seen) → Sees a (dueTo X C r (g .table)) X C (seenIn g .reader) (seenIn g .table) → isWhole a ≡ false
             → dueTo X C (seenIn g .reader) (seenIn g .table) ≡ dueTo X C r (g .table)
-        go (whole l b) q n = absurd (false≢true (sym n))
-        go unfinished q n = q
-        go over q n = q .1 ∙ sym (q .0)
-        go (denied i) q n = absurd q
+        go (whole l b) u n′ = absurd (false≢true (sym n′))
+        go unfinished u n′ = u .0
+        go over u n′ = u .1 .0 ∙ sym (u .0)
+        go (denied i) u n′ = absurd u
 
     -- a whole record
     module _ (l b : ℕ) (is : seenIn g .seen ≡ whole l b) where
@@ -342,6 +352,8 @@ module _ (X : List ℕ) (C : ℕ) (w : List ℕ) (f : Fill) (T line : ℕ) (D : 
           stays (putBackOf x) e (put-back-tells X C x w e (step .tells) at)
           (ap (λ (o : Reader). o .fill) same ∙ next .fill-same) (ap (λ (o : Reader). o .slots) same ∙ next .slots-same)
           (look-put-back X C r w (g .table) (k .gathers .tells) (k .is-current) l b is)
+          (at-rest (putBackOf x) (ap (λ (o : Reader). isWindow (o .phase)) same) (ap (λ (o : Reader). isTable (o .phase)) same))
+          (fresh-put-back X C x w e (step .tells) at)
 
       more : (j : ℕ) → room ≡ suc j → fits (then′ g) ≡ true → Going j (put (then′ g)) (ms ++ (seen .mark ∷ []))
       more j left fit =
