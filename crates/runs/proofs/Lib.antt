@@ -23,3 +23,4 @@ pub mod Resume
 pub mod Own
 pub mod Standing
 pub mod Exceptions
+pub mod Listed

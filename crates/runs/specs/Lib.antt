@@ -7,3 +7,4 @@ pub mod Progress
 pub mod Served
 pub mod Resume
 pub mod Standing
+pub mod Listed
