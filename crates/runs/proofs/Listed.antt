@@ -33,10 +33,12 @@ use Rattle.view.proofs.Heads.{trim-within}
 use Rattle.view.proofs.Cases.{between-in}
 use Rattle.view.proofs.Joins.{filled-room, filled-done, others-are, full-some}
 use Rattle.rows.specs.Rows.{lengthOf, lastText}
-use Rattle.runs.specs.Run.{State, Made, reading, afterRead, Event, read, brought, Run, begun, by-read, by-report}
+use Rattle.runs.specs.Run.{State, Made, reading, afterRead, Event, read, brought, Run, begun, by-read, by-report, by-seek, by-refused-report, by-refused-seek}
 use Rattle.runs.specs.Demand.{front as fromFront, origin, answers, dueFrom, nth, Gives, Hears}
-use Rattle.runs.specs.Listed.{Stops, rowAt, Lists, serves, lists, stops, Listed}
+use Rattle.runs.specs.Served.{Follows, Closed}
+use Rattle.runs.specs.Listed.{Stops, rowAt, Lists, asked, reported, listed, stopped, Listed, Writes, Written}
 use Rattle.runs.proofs.Demand.{demand3}
+use Rattle.runs.proofs.Served.{served}
 
 -- the id
 shown-is : (w : List ℕ) (v : Shown) (text : List ℕ) → Shows w v (some text) → shownIn w v ≡ text
@@ -233,17 +235,58 @@ module _ (X : List ℕ) (capacity : ℕ) (policy : Policy) (start : State) (made
   lists-on : (h : List Event) (s : State) (text : List ℕ) → Run X start h s → origin h ≡ fromFront → answers h < length D → Lists X s text
       → text ≡ listing (drop (answers h) D)
   unfolding origin answers
-  lists-on h _ _ r o k (serves s p m at n w text said taken brings rest) =
+  lists-on h _ _ r o k (asked s p m at text said rest) =
       let run = subst (λ (a : Said). Run X start (read a ∷ h) (afterRead s)) said (by-read h s r) in
-      lists-on (brought n ∷ read (asks p m at) ∷ h) _ text (by-report n w (read (asks p m at) ∷ h) (afterRead s) run taken brings) o k rest
-  lists-on h _ _ r o k (lists s l b more said rest) =
+      lists-on (read (asks p m at) ∷ h) (afterRead s) text run o k rest
+  lists-on h _ _ r o k (reported s n w text taken brings rest) =
+      lists-on (brought n ∷ h) _ text (by-report n w h s r taken brings) o k rest
+  lists-on h _ _ r o k (listed s l b more said rest) =
       let run = subst (λ (a : Said). Run X start (read a ∷ h) (afterRead s)) said (by-read h s r) in
       record-listed (answers h) l b (afterRead s) more (nth (answers h) D) k refl
       (subst (λ (a : Said). Hears a (nth (answers h) D) (afterRead s)) said (heard h s r o))
       (λ u. lists-on (read (gives l b) ∷ h) (afterRead s) more run o u rest)
-  lists-on h _ _ r o k (stops s stop) = last-listed (answers h) (reading s .said) (afterRead s) (nth (answers h) D) k refl stop (heard h s r o)
+  lists-on h _ _ r o k (stopped s stop) = last-listed (answers h) (reading s .said) (afterRead s) (nth (answers h) D) k refl stop (heard h s r o)
 
-pub listed : Listed
+pub whole-listed : Listed
 unfolding origin answers
-listed X capacity policy start made text l =
+whole-listed X capacity policy start made text l =
     lists-on X capacity policy start made [] start text begun refl (some-due (D X capacity policy start made) (stops-last X capacity policy start made)) l
+
+-- A run without seeks and refusals, from which on something is written, writes it from its start on.
+module _ (X : List ℕ) (wish : List Event → ℕ) (start : State) where
+  one-more : (s : State) (a : Said) → reading s .said ≡ a → Writes X (afterRead s) → Writes X s
+  one-more s (asks p m o) e t = record { text = t .text; is-listed = asked s p m o (t .text) e (t .is-listed) }
+  one-more s (gives l b) e t = record { text = rowAt l b (afterRead s) ++ t .text; is-listed = listed s l b (t .text) e (t .is-listed) }
+  one-more s ends e t = record { text = lastText (reading s .said); is-listed = stopped s (subst Stops (sym e) tt) }
+  one-more s (refuses n vs) e t = record { text = lastText (reading s .said); is-listed = stopped s (subst Stops (sym e) tt) }
+
+  from-start : (h : List Event) (s : State) → Run X start h s → Follows X wish h → Writes X s → Writes X start
+  from-start _ _ begun f t = t
+  from-start _ _ (by-read h s r) f t = from-start h s r f (one-more s (reading s .said) refl t)
+  from-start _ _ (by-report n w h s r taken brings) f t =
+      from-start h s r (f .1) (record { text = t .text; is-listed = reported s n w (t .text) taken brings (t .is-listed) })
+  from-start _ _ (by-seek l b h s r e) f t = absurd f
+  from-start _ _ (by-refused-report n number h s r e) f t = absurd f
+  from-start _ _ (by-refused-seek l b number h s r e) f t = absurd f
+
+  -- the last that was heard is the end or a refusal, so it is written there
+  closed-stops : (a : Said) (h : List Event) → Closed (read a ∷ h) → Stops a
+  closed-stops (asks p m o) h c = absurd c
+  closed-stops (gives l b) h c = absurd c
+  closed-stops ends h c = tt
+  closed-stops (refuses n vs) h c = tt
+
+  all-written : (h : List Event) (s : State) → Run X start h s → Follows X wish h → Closed h → Writes X start
+  all-written _ _ begun f c = absurd c
+  all-written _ _ (by-read h s r) f c =
+      from-start h s r f (record { text = lastText (reading s .said); is-listed = stopped s (closed-stops (reading s .said) h c) })
+  all-written _ _ (by-report n w h s r taken brings) f c = absurd c
+  all-written _ _ (by-seek l b h s r e) f c = absurd c
+  all-written _ _ (by-refused-report n number h s r e) f c = absurd c
+  all-written _ _ (by-refused-seek l b number h s r e) f c = absurd c
+
+pub written : Written
+written X few capacity policy start made =
+    let wish : List Event → ℕ = λ h. 0 in
+    let t = served X few capacity policy start made wish in
+    all-written X wish start (t .history) (t .last) (t .is-run) (t .follows) (t .closed)
