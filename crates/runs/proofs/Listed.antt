@@ -213,7 +213,7 @@ module _ (X : List ℕ) (capacity : ℕ) (policy : Policy) (start : State) (made
   record-listed : (k l b : ℕ) (s : State) (text : List ℕ) (d : meant.Said Rec) → k < length D → nth k D ≡ d → Hears (gives l b) d s
       → (suc k < length D → text ≡ listing (drop (suc k) D)) → rowAt l b s ++ text ≡ listing (drop k D)
   unfolding listing
-  record-listed k l b s text (meant.gives r) h e (line , (byte , g)) rest =
+  record-listed k l b s text (meant.gives r) h e (line, (byte, g)) rest =
       (λ i. gives-row r s l b line byte g i ++ rest (gives-more k D r stops-last e) i)
       ∙ sym (ap listing (at-nth k D h ∙ ap (λ (d : meant.Said Rec). d ∷ drop (suc k) D) e))
   record-listed k l b s text meant.ends h e q rest = absurd q
