@@ -28,3 +28,4 @@ pub mod Exceptions
 pub mod Sample
 pub mod SetTable
 pub mod Gather
+pub mod Listed
