@@ -1,0 +1,2 @@
+-- Laws of gathering a set's records.
+pub mod Gathering
