@@ -106,6 +106,20 @@ pub record Called : Type 0 where
 abbrev pub emptied : Set → Set
 emptied s = record { filled = s .filled; count = 0; line = s .line; base = s .base }
 
+-- a set of the gathered records; the reader stood at the first
+abbrev pub holding : Reader → Gathered → (w bytes : List ℕ) → Called
+holding first g w bytes =
+    record {
+      said = holds (g .count) (first .fill .filled);
+      reader = g .reader;
+      window = w;
+      table = g .table;
+      set = record { filled = first .fill .filled; count = g .count; line = first .mark .line; base = first .fill .base };
+      bytes = bytes;
+      marks = g .marks;
+      ends = g .ends;
+    }
+
 module _ (s : Set) (bytes marks es : List ℕ) where
   -- the set's slices untouched
   abbrev pub leaves : Said → Reader → (w e : List ℕ) → Set → Called
@@ -117,23 +131,7 @@ module _ (s : Set) (bytes marks es : List ℕ) where
 
   -- the filled bytes are copied, and the tables are as they were gathered; d is what the read of the first record left
   abbrev pub filledWith : Did → Gathered → Called
-  filledWith d g =
-      record {
-        said = holds (g .count) (d .reader .fill .filled);
-        reader = g .reader;
-        window = d .window;
-        table = g .table;
-        set =
-            record {
-              filled = d .reader .fill .filled;
-              count = g .count;
-              line = d .reader .mark .line;
-              base = d .reader .fill .base;
-            };
-        bytes = pasted 0 (take (d .reader .fill .filled) (d .window)) bytes;
-        marks = g .marks;
-        ends = g .ends;
-      }
+  filledWith d g = holding (d .reader) g (d .window) (pasted 0 (take (d .reader .fill .filled) (d .window)) bytes)
 
   -- behind the first record, of which the table of marks has room for so many: "the next record doesn't fit its tables .. the next read gives that record"
   abbrev pub collectedIn : (room : ℕ) → Did → Called

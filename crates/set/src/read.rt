@@ -1,14 +1,23 @@
 // One set call (01, module 6, refusal 12).
-use reader::Look;
+use crate::state::Filled;
+use crate::state::NextSet;
+use crate::state::Set;
+use reader::Current;
 use reader::Reader;
 use reader::Sight;
 ghost use mathlib.Core.Path.{_≡_};
 ghost use lib.ListN.{length, take};
 ghost use Rattle.scan.specs.Move.{pasted};
-ghost use Prim.Native.Nat.{suc, _+_, _≤_};
+ghost use Prim.Native.Nat.{ℕ, suc, _+_, _≤_};
+ghost use mathlib.Core.List.{List};
 ghost use lib.Dec.{leb};
+ghost use mathlib.Core.Bool.{_&&_};
+ghost use Rattle.reader.specs.State.{sane, lentAs};
+ghost use Rattle.reader.specs.Read as read;
+ghost use Rattle.reader.specs.Read.{does};
 ghost use Rattle.reader.specs.Look.{seenBy};
-ghost use Rattle.set.specs.Read.{gathered, put, gather, isWhole, Fitting};
+ghost use Rattle.set.specs.Set.{sound};
+ghost use Rattle.set.specs.Read.{gathered, put, gather, isWhole, Fitting, called, saidBy, leaves, emptied, holding, pairs, collectedIn};
 
 // The first `count` ends of a table, or all that it has, into `ends` from `at` on. Where they do not fit there, nothing changes.
 fn copy_ends(table: &[usize], count: usize, ends: &mut [usize], at: usize)
@@ -134,4 +143,105 @@ fn gather(
         count += 1;
         left -= 1;
     }
+}
+
+// The filled bytes of a window, or all that it has, at the front of the set's bytes. Where they do not fit there, nothing changes.
+fn copy_filled(window: &[u8], filled: usize, bytes: &mut [u8])
+    ensures { λ _. ⌜ now (bytes .exit) ≡ pasted 0 (take filled (now (window .entry))) (now (bytes .entry)) ⌝ }
+{
+    if window.len() <= filled {
+        scan::copy(window, bytes, 0);
+    } else {
+        scan::copy(&window[..filled], bytes, 0);
+    }
+}
+
+// An ask, the end or a refusal: the set is untouched, with count 0.
+fn leave(reader: Reader, set: Set, answer: Filled) -> NextSet
+    ensures { λ n. ⌜ ((w e bytes marks es : List ℕ) → called n w e bytes marks es ≡ leaves set bytes marks es (saidBy answer) reader w e (emptied set)) ⌝ }
+{
+    NextSet {
+        reader,
+        set: Set { count: 0, ..set },
+        answer,
+    }
+}
+
+// A set of the gathered records, of which the first was current before.
+fn hold(first: Reader, way: Way) -> NextSet
+    ensures { λ n. ⌜ ((w e bytes marks es : List ℕ) → called n w e bytes marks es ≡ holding first (gathered (way .reader) e (way .count) (way .used) marks es) w bytes) ⌝ }
+{
+    let fill = first.fill;
+    let mark = first.mark;
+    let base = fill.base;
+    let reader = way.reader;
+    let set = Set {
+        filled: fill.filled,
+        count: way.count,
+        line: mark.line,
+        base,
+    };
+    NextSet {
+        reader,
+        set,
+        answer: Filled::Records {
+            count: way.count,
+            filled: fill.filled,
+        },
+    }
+}
+
+// Refusal 11 is not due for the reader and its lent lengths, but for its ends.
+fn is_lent(reader: Reader, window: usize, table: usize) -> bool
+    ensures { λ r. ⌜ r ≡ (sane reader && lentAs reader window table) ⌝ }
+{
+    let current = reader.current(window, table);
+    match current {
+        Current::At {
+            start: _,
+            filled: _,
+            count: _,
+        } => true,
+        Current::None => true,
+        Current::State => false,
+    }
+}
+
+// Nor for the set: its count and filled are not above its lent lengths.
+fn is_sound(set: Set, bytes: usize, marks: usize) -> bool
+    ensures { λ r. ⌜ r ≡ sound set bytes marks ⌝ }
+{
+    if bytes < set.filled {
+        return false;
+    }
+    if marks < set.count {
+        return false;
+    }
+    set.count <= marks - set.count
+}
+
+// The first record is current: it and those behind it that fit go into the set, or it is found again by the next call.
+fn collect(
+    reader: Reader,
+    window: &[u8],
+    table: &mut [usize],
+    set: Set,
+    bytes: &mut [u8],
+    marks: &mut [usize],
+    ends: &mut [usize],
+) -> NextSet
+    ensures { λ n. ⌜ ((s : read.Said) → called n (now (window .entry)) (now (table .exit)) (now (bytes .exit)) (now (marks .exit)) (now (ends .exit)) ≡ collectedIn set (now (bytes .entry)) (now (marks .entry)) (now (ends .entry)) (pairs (now (marks .entry))) (does s reader (now (window .entry)) (now (table .entry)))) ⌝ }
+{
+    let room = marks.len() / 2;
+    if room == 0 {
+        return leave(reader.put_back(), set, Filled::Room);
+    }
+    if !fits(reader, 0, ends.len()) {
+        return leave(reader.put_back(), set, Filled::Room);
+    }
+    let lines = put(reader, 0, 0, table, marks, ends);
+    let way = gather(reader, lines, room - 1, window, table, marks, ends);
+    let fill = reader.fill;
+    copy_filled(window, fill.filled, bytes);
+    hold(reader, way)
 }
