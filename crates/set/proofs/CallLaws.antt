@@ -4,6 +4,7 @@ use native.Mathlib.Nat.{div-add-mod', mod-lt}
 use native.Mathlib.Omega.{arith}
 use mathlib.Core.Bool.{Bool, true, false, not, cond, _&&_}
 use mathlib.Core.List.{List, []}
+use mathlib.Core.Logic.{inl, inr}
 use mathlib.Core.Path.{_≡_, refl, sym, ap, _∙_}
 use lib.ListN.{length}
 use lib.Dec.{eqb, ltb, leb}
@@ -13,7 +14,10 @@ use Rattle.reader.specs.declared.state.Reader.{Reader}
 use Rattle.reader.specs.State.{sane, lentAs, isCurrent}
 use Rattle.reader.specs.Calls.{Held, held, missing, currentOf}
 use Rattle.reader.specs.Look.{putBackOf}
-use Rattle.reader.specs.Read.{Did, readOf}
+use Rattle.reader.specs.declared.state.Answer.{Answer}
+use Rattle.reader.specs.Read.{Did, saidBy, does, readOf}
+use Rattle.reader.proofs.Sanity.{true-and}
+use Rattle.reader.proofs.ReadLaws.{neither}
 use Rattle.set.specs.declared.state.Set.{Set}
 use Rattle.set.specs.Set.{sound}
 use Rattle.set.specs.Read.{gathered, fits, put, gather, pairs, Called, refused12, leaves, refuses, filledWith, collectedIn, afterRead, setOf}
@@ -92,3 +96,34 @@ module _ (s : Set) (bytes marks es : List ℕ) (d : Did) where
             let less : n ≡ suc n - 1 = omega arith in
             let turn : collectedIn s bytes marks es (suc n) d ≡ filledWith s bytes marks es d (gather n (d .window) (put (gathered (d .reader) (d .table) 0 0 marks es))) = rw f in
             turn ∙ ap (λ (k : ℕ). filledWith s bytes marks es d (gather k (d .window) (put (gathered (d .reader) (d .table) 0 0 marks es)))) less
+
+-- what follows the read, by its answer
+abbrev pub answered : Set → (bytes marks es : List ℕ) → Reader → (w e : List ℕ) → Answer → Called
+answered s bytes marks es r w e a = afterRead s bytes marks es (saidBy a) (does (saidBy a) r w e)
+
+-- the call, by its tests
+module _ (s : Set) (bytes marks es : List ℕ) (r : Reader) (w e : List ℕ) where
+  abbrev tested : Bool
+  tested = sane r && lentAs r (length w) (length e) && sound s (length bytes) (length marks)
+
+  set-state : tested ≡ false → setOf s bytes marks es r w e ≡ leaves s bytes marks es (refuses 11 []) r w e s
+  unfolding setOf
+  set-state t = rw t
+
+  pub set-untaken : (sane r && lentAs r (length w) (length e)) ≡ false → setOf s bytes marks es r w e ≡ leaves s bytes marks es (refuses 11 []) r w e s
+  set-untaken t = set-state (neither (sane r && lentAs r (length w) (length e)) (sound s (length bytes) (length marks)) (inl t))
+
+  pub set-unsound : sound s (length bytes) (length marks) ≡ false → setOf s bytes marks es r w e ≡ leaves s bytes marks es (refuses 11 []) r w e s
+  set-unsound t = set-state (neither (sane r && lentAs r (length w) (length e)) (sound s (length bytes) (length marks)) (inr t))
+
+  module _ (t : (sane r && lentAs r (length w) (length e)) ≡ true) (u : sound s (length bytes) (length marks) ≡ true) where
+    both : tested ≡ true
+    both = true-and t u
+
+    pub set-short : length bytes < length w → setOf s bytes marks es r w e ≡ refused12 s bytes marks es r w e
+    unfolding setOf
+    set-short h = rw (both, lt-ltb (length bytes) (length w) h)
+
+    pub set-reads : length w ≤ length bytes → setOf s bytes marks es r w e ≡ afterRead s bytes marks es (readOf r w e .said) (readOf r w e)
+    unfolding setOf
+    set-reads h = rw (both, le-ltb (length bytes) (length w) h)

@@ -2,6 +2,7 @@
 mod read;
 mod state;
 
+pub use read::next_set;
 pub use state::Filled;
 pub use state::NextSet;
 pub use state::Set;

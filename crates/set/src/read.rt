@@ -2,22 +2,86 @@
 use crate::state::Filled;
 use crate::state::NextSet;
 use crate::state::Set;
+use reader::Answer;
 use reader::Current;
+use reader::Next;
 use reader::Reader;
 use reader::Sight;
 ghost use mathlib.Core.Path.{_≡_};
 ghost use lib.ListN.{length, take};
 ghost use Rattle.scan.specs.Move.{pasted};
 ghost use Prim.Native.Nat.{ℕ, suc, _+_, _≤_};
-ghost use mathlib.Core.List.{List};
+ghost use mathlib.Core.List.{List, []};
 ghost use lib.Dec.{leb};
 ghost use mathlib.Core.Bool.{_&&_};
 ghost use Rattle.reader.specs.State.{sane, lentAs};
 ghost use Rattle.reader.specs.Read as read;
-ghost use Rattle.reader.specs.Read.{does};
+ghost use Rattle.reader.specs.Read.{did, does};
 ghost use Rattle.reader.specs.Look.{seenBy};
 ghost use Rattle.set.specs.Set.{sound};
-ghost use Rattle.set.specs.Read.{gathered, put, gather, isWhole, Fitting, called, saidBy, leaves, emptied, holding, pairs, collectedIn};
+ghost use Rattle.set.specs.Read.{gathered, put, gather, isWhole, Fitting, called, saidBy, leaves, emptied, holding, pairs, collectedIn, afterRead, refuses, SetIs};
+
+// The records that are whole in the window, from the current place on, as a set: at least one, or what stands in the way.
+pub fn next_set(
+    reader: Reader,
+    window: &mut [u8],
+    table: &mut [usize],
+    set: Set,
+    bytes: &mut [u8],
+    marks: &mut [usize],
+    ends: &mut [usize],
+) -> NextSet
+    ensures { λ n. ⌜ SetIs set (now (bytes .entry)) (now (marks .entry)) (now (ends .entry)) reader (now (window .entry)) (now (table .entry)) n (now (window .exit)) (now (table .exit)) (now (bytes .exit)) (now (marks .exit)) (now (ends .exit)) ⌝ }
+{
+    if !is_lent(reader, window.len(), table.len()) {
+        return refuse_state(reader, set);
+    }
+    if !is_sound(set, bytes.len(), marks.len()) {
+        return refuse_state(reader, set);
+    }
+    if bytes.len() < window.len() {
+        return leave(reader, set, Filled::Room);
+    }
+    let next = reader.next(window, table);
+    after_read(next, window, table, set, bytes, marks, ends)
+}
+
+// What follows the read of the first record, by its answer.
+fn after_read(
+    next: Next,
+    window: &[u8],
+    table: &mut [usize],
+    set: Set,
+    bytes: &mut [u8],
+    marks: &mut [usize],
+    ends: &mut [usize],
+) -> NextSet
+    ensures { λ n. ⌜ called n (now (window .entry)) (now (table .exit)) (now (bytes .exit)) (now (marks .exit)) (now (ends .exit)) ≡ afterRead set (now (bytes .entry)) (now (marks .entry)) (now (ends .entry)) (read.saidBy (next .answer)) (did next (now (window .entry)) (now (table .entry))) ⌝ }
+{
+    let reader = next.reader;
+    let answer = next.answer;
+    match answer {
+        Answer::Ask(ask) => leave(reader, set, Filled::Ask(ask)),
+        Answer::Record(_) => collect(reader, window, table, set, bytes, marks, ends),
+        Answer::End => leave(reader, set, Filled::End),
+        Answer::Start { line, byte } => leave(reader, set, Filled::Start { line, byte }),
+        Answer::Window(place) => leave(reader, set, Filled::Window(place)),
+        Answer::Table(place) => leave(reader, set, Filled::Table(place)),
+        Answer::Place => leave(reader, set, Filled::Place),
+        Answer::State => refuse_state(reader, set),
+    }
+}
+
+// Refusal 11: nothing changes, the set's count neither.
+fn refuse_state(reader: Reader, set: Set) -> NextSet
+    ensures { λ n. ⌜ ((w e bytes marks es : List ℕ) → called n w e bytes marks es ≡ leaves set bytes marks es (refuses 11 []) reader w e set) ⌝ }
+{
+    NextSet {
+        reader,
+        set,
+        answer: Filled::State,
+    }
+}
 
 // The first `count` ends of a table, or all that it has, into `ends` from `at` on. Where they do not fit there, nothing changes.
 fn copy_ends(table: &[usize], count: usize, ends: &mut [usize], at: usize)
