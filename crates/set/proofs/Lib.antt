@@ -1,0 +1,3 @@
+-- Laws of gathering a set's records.
+pub mod Gathering
+pub mod CallLaws
