@@ -1,0 +1,4 @@
+-- Laws of a record by its number, and that a promise allows one answer.
+pub mod Numbers
+pub mod Inside
+pub mod Places
