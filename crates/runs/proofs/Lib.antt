@@ -10,7 +10,6 @@ pub mod Sought
 pub mod Step
 pub mod Calls
 pub mod Fine
-pub mod Within
 pub mod Given
 pub mod Reached
 pub mod Demand

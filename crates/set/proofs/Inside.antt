@@ -16,7 +16,7 @@ use Rattle.set.specs.Set.{sound, endsBefore, endsTo, Record, held, missi
 use Rattle.set.specs.Record.{heldBy, RecordIs}
 use Rattle.set.proofs.Numbers.{true-sound}
 
-abbrev Inside : (bytes ends : ℕ) → Record → Type 0
+abbrev pub Inside : (bytes ends : ℕ) → Record → Type 0
 Inside bytes ends (held start filled from to) = (filled ≤ bytes) × ((from < to) × (to ≤ ends))
 Inside bytes ends (missing number) = Unit {0}
 
@@ -26,7 +26,7 @@ module _ (s : Set) (bytes : ℕ) (marks : List ℕ) (ends i : ℕ) where
       let a = and-true (ltb (endsBefore marks i) (endsTo marks i)) (leb (endsTo marks i) ends) e in
       (ltb-true (endsBefore marks i) (endsTo marks i) (a .0), leb-true (endsTo marks i) ends (a .1))
 
-  record-inside : Inside bytes ends (recordOf s bytes marks ends i)
+  pub record-inside : Inside bytes ends (recordOf s bytes marks ends i)
   unfolding recordOf
   record-inside =
       go (sound s bytes (length marks)) refl (ltb i (s .count)) refl (usable (endsBefore marks i) (endsTo marks i) ends) refl

@@ -2,3 +2,5 @@
 pub mod Numbers
 pub mod Inside
 pub mod Places
+pub mod Shown
+pub mod UniqueViews

@@ -3,3 +3,4 @@ pub mod Set
 pub mod Read
 pub mod Record
 pub mod Views
+pub mod Shown
