@@ -12,7 +12,6 @@ pub mod Look
 pub mod Calls
 pub mod Back
 pub mod Fine
-pub mod Within
 pub mod Given
 pub mod Reached
 pub mod Demand
