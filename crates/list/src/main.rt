@@ -15,7 +15,7 @@ use reader::Answer;
 use reader::Reader;
 use reader::Setup;
 
-// The longest row has 65,599 bytes: an id as long as a record may be, three numbers and four bytes. Twice the window holds it.
+// The longest row has fewer than 65,600 bytes: an id as long as a record may be, three numbers and four bytes. Twice the window holds it.
 fn main() {
     let mut window = io::large_buffer();
     let mut ends = [0usize; 4096];

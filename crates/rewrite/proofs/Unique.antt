@@ -30,7 +30,8 @@ answer-of Wrap = refl
 answer-of (Room n) = refl
 answer-of State = refl
 
-one-left : (x : Left) → Unique (λ (r : Rewrote) (exit : List ℕ). left r exit ≡ x)
+-- one answer and one output for what is said and left
+pub one-left : (x : Left) → Unique (λ (r : Rewrote) (exit : List ℕ). left r exit ≡ x)
 one-left x r r′ exit exit′ p q =
     let e : left r exit ≡ left r′ exit′ = p ∙ sym q in
     (sym (answer-of r) ∙ ap (λ (l : Left). answerOf (l .answer)) e ∙ answer-of r′, ap (λ (l : Left). l .out) e)

@@ -4,34 +4,72 @@ use Prim.Native.Nat.{ℕ, _+_, _-_, _^_, _≤_, _<_}
 use native.Mathlib.Omega.{arith}
 use mathlib.Core.Path.{_≡_, refl, sym, ap, subst, _∙_}
 use mathlib.Core.Bool.{Bool, true, false}
-use mathlib.Core.List.{List, [], _∷_, _++_}
-use lib.ListN.{length, length-append}
-use lib.Seq.{append-snoc}
+use mathlib.Core.List.{List, [], _∷_, _++_, append-assoc}
+use lib.ListN.{length, take, drop, length-append}
+use lib.Seq.{append-snoc, length-take-le, take-at}
 use lib.Dec.{leb}
-use borrow.Author.Tests.{leb-true, leb-false}
+use borrow.Author.Tests.{leb-true}
 use Rattle.meaning.specs.Ascii.{ascii}
+use Rattle.scan.specs.Move.{pasted}
+use Rattle.scan.proofs.Paste.{pasted-room}
 use Rattle.write.specs.Listing.{decimal, rowOf, endText, refusedText}
-use Rattle.write.specs.Output.{wrote, refuses, cut, need}
+use Rattle.write.specs.Output.{Answer, wrote, refuses, Left, cut, need}
 use Rattle.write.specs.Put.{Fits, Put}
 use Rattle.rows.specs.Put.{numberText, partText}
 use Rattle.rows.specs.Rows.{left, filledAt}
 use Rattle.rows.specs.declared.Told.the-variants.{Done, Room}
 
+-- an answer that is a length, and the length
+abbrev IsWrote : Answer → Type 0
+IsWrote (wrote n) = Unit {0}
+IsWrote (refuses number values) = ⊥
+
+abbrev lengthIn : Answer → ℕ
+lengthIn (wrote n) = n
+lengthIn (refuses number values) = 0
+
+-- the two cases of `filledAt`
+filled-refused : (at : ℕ) (text out : List ℕ) → leb (at + length text) (length out) ≡ false
+    → filledAt at text out ≡ record { answer = refuses 9 (need text ∷ []); out = out }
+unfolding filledAt
+filled-refused at text out h = rw h
+
+filled-put : (at : ℕ) (text out : List ℕ) → leb (at + length text) (length out) ≡ true
+    → filledAt at text out ≡ record { answer = wrote (at + length text); out = pasted at text out }
+unfolding filledAt
+filled-put at text out h = rw h
+
 pub told-room : {n : ℕ} (at : ℕ) (text out : List ℕ) → length text ≡ n → n < 2 ^ 64 → false ≡ leb (at + n) (length out) → left (Room n) out ≡ filledAt at text out
-unfolding filledAt need
+unfolding need
 told-room {n} at text out e few h =
-    let none : leb (at + length text) (length out) ≡ false = ap (λ (k : ℕ). leb (at + k) (length out)) e ∙ sym h in
     let is : n ≡ cut (length text) = omega arith in
-    rw none (λ i. record { answer = refuses 9 (is i ∷ []); out = out })
+    (λ i. record { answer = refuses 9 (is i ∷ []); out = out })
+    ∙ sym (filled-refused at text out (ap (λ (k : ℕ). leb (at + k) (length out)) e ∙ sym h))
 
 pub told-fits : {n : ℕ} (at : ℕ) (text out : List ℕ) → length text ≡ n → true ≡ leb (at + n) (length out) → Fits at text out
 told-fits {n} at text out e h = omega (arith, leb-true (at + n) (length out) (sym h))
 
 pub told-done : {n at r : ℕ} {text out exit : List ℕ} → length text ≡ n → true ≡ leb (at + n) (length out) → Put at text out r exit → left (Done r) exit ≡ filledAt at text out
-unfolding filledAt
 told-done {n} {at} {r} {text} {out} e h p =
-    let some : leb (at + length text) (length out) ≡ true = ap (λ (k : ℕ). leb (at + k) (length out)) e ∙ sym h in
-    rw some (λ i. record { answer = wrote (p .place i); out = p .holds i })
+    (λ i. record { answer = wrote (p .place i); out = p .holds i })
+    ∙ sym (filled-put at text out (ap (λ (k : ℕ). leb (at + k) (length out)) e ∙ sym h))
+
+-- What stands before the place that is answered is what stood before the text, and the text: so a buffer's front, when it is written, is the texts
+-- put into it one behind the other.
+pub kept : (at n : ℕ) (text out exit : List ℕ) → left (Done n) exit ≡ filledAt at text out → take n exit ≡ take at out ++ text
+kept at n text out exit e = go (leb (at + length text) (length out)) refl
+  where
+    go : (t : Bool) → leb (at + length text) (length out) ≡ t → take n exit ≡ take at out ++ text
+    go true t =
+        let is = e ∙ filled-put at text out t in
+        let fits = leb-true (at + length text) (length out) t in
+        let long : length (take at out ++ text) ≡ at + length text = omega (arith, length-append (take at out) text, length-take-le at out (omega arith)) in
+        let rest = drop (at + length text) out in
+        let place : n ≡ at + length text = ap (λ (l : Left). lengthIn (l .answer)) is in
+        (λ i. take (place i) (is i .out))
+        ∙ ap (take (at + length text)) (pasted-room at text out fits ∙ sym (append-assoc (take at out) text rest))
+        ∙ take-at (take at out ++ text) rest (at + length text) long
+    go false t = absurd (subst IsWrote (ap (λ (l : Left). l .answer) (e ∙ filled-refused at text out t)) tt)
 
 number-length : (n behind : ℕ) → length (numberText n behind) ≡ length (decimal n) + 1
 number-length n behind = length-append (decimal n) (behind ∷ [])

@@ -9,7 +9,6 @@ use mathlib.Core.Path.{_≡_, refl, sym, ap, subst, _∙_}
 use lib.ListN.{length, getD, take, drop, length-drop}
 use lib.Seq.{length-take-le, drop-drop, drop-append-le, take-append-le, drop-cons}
 use lib.Dec.{eqb}
-use borrow.Author.Tests.{eqb-true, eqb-false}
 use Rattle.meaning.specs.Input.{Rec}
 use Rattle.meaning.specs.Parts.{headOf, seqLines, seqOf, idOf, descOf}
 use Rattle.meaning.specs.OnePass.{Mark}
@@ -28,12 +27,12 @@ use Rattle.view.specs.Full as full
 use Rattle.view.specs.Shows.{Shows}
 use Rattle.view.specs.Current.{ofHeld, ofCurrent, refused, are}
 use Rattle.view.specs.Current as current
-use Rattle.view.proofs.Meaning.{Stands, head-shows, id-shows, desc-shows, count-is, line-shows, full-shows, full-one-shows}
+use Rattle.view.proofs.Meaning.{Stands, count-is}
+use Rattle.view.proofs.Within.{head-wider, id-wider, desc-wider, line-wider, full-wider}
 use Rattle.runs.specs.Run.{state}
 use Rattle.runs.specs.Demand.{Gives}
 use Rattle.runs.proofs.Tells.{Tells, Holds}
 use Rattle.runs.proofs.Fine.{Fine}
-use Rattle.runs.proofs.Within.{Within, shows-wider, head-within, id-in, desc-in, line-in′, picked-wider}
 
 -- places counted from b on
 abbrev shifted : (b : ℕ) → List ℕ → List ℕ
@@ -64,8 +63,11 @@ shift-injective b (x ∷ es) (f ∷ fs) e =
     λ i. k i ∷ t i
 
 module _ (X : List ℕ) (C : ℕ) (r : Reader) (w e : List ℕ) (t : Tells X C r w e) (m : Mark) (f : Fine X m) (k : Holds m r e) where
+  abbrev filled : ℕ
+  filled = r .fill .filled
+
   abbrev F : List ℕ
-  F = take (r .fill .filled) w
+  F = take filled w
 
   abbrev start : ℕ
   start = r .mark .start .0
@@ -132,26 +134,9 @@ module _ (X : List ℕ) (C : ℕ) (r : Reader) (w e : List ℕ) (t : Tells X C r
   shown =
       current-held r (length w) (length e) (sane-true r (t .is-good .is-sane)) (t .is-good .window-lent) (t .is-good .table-lent) is-here
 
-  -- what a view shows in the filled bytes, it shows in the window
-  by-view :
-      (v : List ℕ → ℕ → List ℕ → Shown) (text : Option (List ℕ)) →
-      Within (length F) (v F start es) →
-      Shows F (v F start es) text →
-      Shows w (ofCurrent r w e v refused) text
-  by-view v text inside s =
-      subst (λ (h : Held). Shows w (ofHeld w e v refused h) text) (sym shown) (shows-wider (r .fill .filled) w (v F start es) text fits inside s)
-
-  sequence : (scratch : List ℕ) → length (seqOf rec) ≤ length scratch → (l : Left) → l ≡ fullIn F start es scratch → picked w (l .scratch) (l .answer) ≡ seqOf rec
-  sequence scratch room l is = subst (λ (o : Left). picked w (o .scratch) (o .answer) ≡ seqOf rec) (sym is) (go (eqb (length (seqLines rec)) 1) refl)
-    where
-      go : (t : Bool) → eqb (length (seqLines rec)) 1 ≡ t → picked w (fullIn F start es scratch .scratch) (fullIn F start es scratch .answer) ≡ seqOf rec
-      go false u =
-          picked-wider (r .fill .filled) w start es scratch (fullIn F start es scratch .scratch) fits ∙ full-shows F start rec es stands scratch (eqb-false (length (seqLines rec)) 1 u) room
-      go true u =
-          let one = full-one-shows F start rec es stands scratch (eqb-true (length (seqLines rec)) 1 u) in
-          picked-wider (r .fill .filled) w start es scratch (fullIn F start es scratch .scratch) fits
-          ∙ ap (λ (q : List ℕ). picked F q (fullIn F start es scratch .answer)) (one .1)
-          ∙ one .0
+  -- what a view shows of the filled bytes, it shows of the current record
+  by-view : (v : List ℕ → ℕ → List ℕ → Shown) (text : Option (List ℕ)) → Shows w (v F start es) text → Shows w (ofCurrent r w e v refused) text
+  by-view v text s = subst (λ (h : Held). Shows w (ofHeld w e v refused h) text) (sym shown) s
 
   pub gives : Gives (cutOut X m) (state r w e)
   gives =
@@ -159,16 +144,15 @@ module _ (X : List ℕ) (C : ℕ) (r : Reader) (w e : List ℕ) (t : Tells X C r
         position =
             place-shown r (sane-true r (t .is-good .is-sane)) phase.Current (k .is-current)
             ∙ (λ i. at (sym (k .line-is) i) (sym (k .byte-is) i));
-        head = by-view headIn (some (headOf rec)) (head-within F start es) (head-shows F start rec es stands);
-        id = by-view idIn (some (idOf (headOf rec))) (id-in F start es) (id-shows F start rec es stands);
-        desc = by-view descIn (descOf (headOf rec)) (desc-in F start es) (desc-shows F start rec es stands);
+        head = by-view headIn (some (headOf rec)) (head-wider filled w start rec es fits stands);
+        id = by-view idIn (some (idOf (headOf rec))) (id-wider filled w start rec es fits stands);
+        desc = by-view descIn (descOf (headOf rec)) (desc-wider filled w start rec es fits stands);
         lines = ap (ofHeld w e (λ bytes start es. are (lineCount es)) current.refuses) shown ∙ ap are (count-is F start rec es stands);
         line =
             λ i h.
-            by-view (λ bytes start es. lineIn bytes start es i) (some (getD (seqLines rec) i [])) (line-in′ F start es i)
-            (line-shows F start rec es stands i h);
+            by-view (λ bytes start es. lineIn bytes start es i) (some (getD (seqLines rec) i [])) (line-wider filled w start rec es fits stands i h);
         sequence =
             λ scratch room.
-            sequence scratch room _
-            (ap (ofHeld w e (λ bytes start es. fullIn bytes start es scratch) (λ n. left (full.refuses n []) scratch)) shown);
+            let is = ap (ofHeld w e (λ bytes start es. fullIn bytes start es scratch) (λ n. left (full.refuses n []) scratch)) shown in
+            subst (λ (o : Left). picked w (o .scratch) (o .answer) ≡ seqOf rec) (sym is) (full-wider filled w start rec es fits stands scratch room);
       }

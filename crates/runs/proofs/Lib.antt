@@ -12,7 +12,6 @@ pub mod Look
 pub mod Calls
 pub mod Back
 pub mod Fine
-pub mod Within
 pub mod Given
 pub mod Reached
 pub mod Demand
@@ -29,3 +28,4 @@ pub mod Sample
 pub mod SetTable
 pub mod Gather
 pub mod SetCall
+pub mod Listed

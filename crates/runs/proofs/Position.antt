@@ -28,13 +28,13 @@ use Rattle.reader.specs.declared.state.Phase.{Phase}
 use Rattle.reader.specs.declared.state.Phase.the-variants as phase
 use Rattle.reader.specs.State.{Good, byteOf, sane, lentAs, withFill, inPhase}
 use Rattle.reader.specs.Read.{Said, asks, gives, ends, refuses, Did, does, asked, given, tooLong, tooMany, reached, movedToFront, makesRoom, closed, stopped, searches, hunted, beginsAt, passed, whenReady, behind, soughtAt, onward, led, ledTo, leadDropped, lasts, readIn, readOf}
-use Rattle.reader.specs.Calls.{Left, at, nowhere, shownIn, placeOf, reportOf, seekOf}
+use Rattle.reader.specs.Calls.{Left, Place, at, nowhere, shownIn, placeOf, reportOf, seekOf}
 use Rattle.reader.proofs.Sanity.{and-true, sane-true}
 use Rattle.reader.proofs.ReadLaws.{closed-full, closed-more, room-moves, room-wider, room-none, hunt-goes, filled-told, filled-not, waits, is-ready, behind-ended, behind-next, sought-mark, sought-astray, onward-waits, onward-goes, on-rising, searching-good, led-by, led-on, led-mark, led-refused, lead-over, lead-asks, lead-in, lead-begins, begins-good, passed-good, lent-true, neither, read-repeats, read-goes}
 use Rattle.reader.proofs.CallLaws.{place-shown}
 use Rattle.reader.proofs.Kept.{isSearching, Behind, begun-behind, filled-bytes, stops, kept-searched, kept-rising}
 use Rattle.runs.specs.Run.{State, Made, Event, read, brought, sought, refused, Run, begun, by-read, by-report, by-seek, by-refused-report, by-refused-seek}
-use Rattle.runs.specs.Position.{lastGiven, positionAfter, Positions}
+use Rattle.runs.specs.Position.{lastGiven, named, positionAfter, Positions}
 use Rattle.runs.proofs.Tells.{Tells}
 use Rattle.runs.proofs.Calls.{filledBy, taken, seeks, report-refused, seek-refused}
 use Rattle.runs.proofs.Reached.{Reached, runs-on, reached-made, made-is}
@@ -65,125 +65,128 @@ Inside phase.Table r = Unit {0}
 Inside phase.Astray r = Unit {0}
 Inside phase.Ahead r = r .mark .start .0 < r .fill .filled
 
--- What a reader shows is what the calls say, and where the end may be said, that is the last record given. While an ask is open, it shows none.
-record Shows (p : Phase) (h : List Event) (r : Reader) : Type 0 where
-  shown : shownIn p r ≡ positionAfter h
-  last : mayEnd p ≡ true → shownIn p r ≡ lastGiven h
+-- What a reader shows is `now`, and where the end may be said, that is `last`, the last record given. While an ask is open, it shows none.
+record Shows (p : Phase) (now last : Place) (r : Reader) : Type 0 where
+  shown : shownIn p r ≡ now
+  last-given : mayEnd p ≡ true → shownIn p r ≡ last
   inside : Inside p r
   asking-none : r .fill .asking ≡ true → shownIn p r ≡ nowhere
 
--- after a read
-abbrev After : List Event → Did → Type 0
-After h d = Shows (d .reader .phase) (read (d .said) ∷ h) (d .reader)
+-- by a read's answer
+abbrev placeRead : Said → (last : Place) → Place
+placeRead (asks p m o) last = nowhere
+placeRead (gives l b) last = at l b
+placeRead ends last = last
+placeRead (refuses n vs) last = named n vs
 
-as-after : {h : List Event} {d o : Did} → d ≡ o → After h o → After h d
-as-after {h} is k = subst (After h) (sym is) k
+abbrev lastRead : Said → (last : Place) → Place
+lastRead (asks p m o) last = last
+lastRead (gives l b) last = at l b
+lastRead ends last = last
+lastRead (refuses n vs) last = last
+
+-- after a read
+abbrev After : (last : Place) → Did → Type 0
+After last d = Shows (d .reader .phase) (placeRead (d .said) last) (lastRead (d .said) last) (d .reader)
+
+as-after : {last : Place} {d o : Did} → d ≡ o → After last o → After last d
+as-after {last} is k = subst (After last) (sym is) k
 
 -- the same reader in the phase that it has
-in-phase : {h : List Event} (r : Reader) (p : Phase) → r .phase ≡ p → Shows p h r → Shows (r .phase) h r
-in-phase {h} r p is k = subst (λ (q : Phase). Shows q h r) (sym is) k
+in-phase : {now last : Place} (r : Reader) (p : Phase) → r .phase ≡ p → Shows p now last r → Shows (r .phase) now last r
+in-phase {now} {last} r p is k = subst (λ (q : Phase). Shows q now last r) (sym is) k
 
 -- each answer, by what it leaves
-module _ (h : List Event) (r : Reader) (w e : List ℕ) where
-  asked-lead : r .phase ≡ phase.Lead → nowhere ≡ lastGiven h → After h (asked r w e)
-  unfolding positionAfter lastGiven
+module _ (last : Place) (r : Reader) (w e : List ℕ) where
+  asked-lead : r .phase ≡ phase.Lead → nowhere ≡ last → After last (asked r w e)
   asked-lead is none-given =
-      in-phase (withFill (asking true (r .fill)) r) phase.Lead is (record { shown = refl; last = λ q. none-given; inside = tt; asking-none = λ q. refl })
+      in-phase (withFill (asking true (r .fill)) r) phase.Lead is (record { shown = refl; last-given = λ q. none-given; inside = tt; asking-none = λ q. refl })
 
-  asked-sought : r .phase ≡ phase.Sought → After h (asked r w e)
-  unfolding positionAfter
+  asked-sought : r .phase ≡ phase.Sought → After last (asked r w e)
   asked-sought is =
       in-phase (withFill (asking true (r .fill)) r) phase.Sought is
-      (record { shown = refl; last = λ q. absurd (false≢true q); inside = tt; asking-none = λ q. refl })
+      (record { shown = refl; last-given = λ q. absurd (false≢true q); inside = tt; asking-none = λ q. refl })
 
-  asked-searching : r .phase ≡ phase.Searching → r .mark .start .0 < r .fill .filled → After h (asked r w e)
-  unfolding positionAfter
+  asked-searching : r .phase ≡ phase.Searching → r .mark .start .0 < r .fill .filled → After last (asked r w e)
   asked-searching is here =
       in-phase (withFill (asking true (r .fill)) r) phase.Searching is
-      (record { shown = refl; last = λ q. absurd (false≢true q); inside = here; asking-none = λ q. refl })
+      (record { shown = refl; last-given = λ q. absurd (false≢true q); inside = here; asking-none = λ q. refl })
 
   -- the end, where no record was given; refusals 2 and 5
-  over-ends : nowhere ≡ lastGiven h → After h (does ends (inPhase phase.Over r) w e)
-  unfolding positionAfter lastGiven
-  over-ends none-given = record { shown = none-given; last = λ q. none-given; inside = tt; asking-none = λ q. refl }
+  over-ends : nowhere ≡ last → After last (does ends (inPhase phase.Over r) w e)
+  over-ends none-given = record { shown = none-given; last-given = λ q. none-given; inside = tt; asking-none = λ q. refl }
 
-  over-refused : (l x : ℕ) → nowhere ≡ lastGiven h → After h (does (refuses 2 (l ∷ x ∷ [])) (inPhase phase.Over r) w e)
-  unfolding positionAfter lastGiven
-  over-refused l x none-given = record { shown = refl; last = λ q. none-given; inside = tt; asking-none = λ q. refl }
+  over-refused : (l x : ℕ) → nowhere ≡ last → After last (does (refuses 2 (l ∷ x ∷ [])) (inPhase phase.Over r) w e)
+  over-refused l x none-given = record { shown = refl; last-given = λ q. none-given; inside = tt; asking-none = λ q. refl }
 
-  astray : After h (does (refuses 5 []) (inPhase phase.Astray r) w e)
-  unfolding positionAfter
-  astray = record { shown = refl; last = λ q. absurd (false≢true q); inside = tt; asking-none = λ q. refl }
+  astray : After last (does (refuses 5 []) (inPhase phase.Astray r) w e)
+  astray = record { shown = refl; last-given = λ q. absurd (false≢true q); inside = tt; asking-none = λ q. refl }
 
   -- what shows a record asks nothing
   module _ (quiet : r .fill .asking ≡ false) where
     not-asking : {A : Type 0} → r .fill .asking ≡ true → A
     not-asking q = absurd (false≢true (sym quiet ∙ q))
 
-    shows-given : (r .fill .told ≡ false → r .mark .search .0 < r .fill .filled) → After h (given r w e)
-    unfolding positionAfter lastGiven
-    shows-given here = record { shown = refl; last = λ q. refl; inside = here; asking-none = not-asking }
+    shows-given : (r .fill .told ≡ false → r .mark .search .0 < r .fill .filled) → After last (given r w e)
+    shows-given here = record { shown = refl; last-given = λ q. refl; inside = here; asking-none = not-asking }
 
-    shows-long : After h (tooLong r w e)
-    unfolding positionAfter
-    shows-long = record { shown = refl; last = λ q. absurd (false≢true q); inside = tt; asking-none = not-asking }
+    shows-long : After last (tooLong r w e)
+    shows-long = record { shown = refl; last-given = λ q. absurd (false≢true q); inside = tt; asking-none = not-asking }
 
-    shows-many : After h (tooMany r w e)
-    unfolding positionAfter
-    shows-many = record { shown = refl; last = λ q. absurd (false≢true q); inside = tt; asking-none = not-asking }
+    shows-many : After last (tooMany r w e)
+    shows-many = record { shown = refl; last-given = λ q. absurd (false≢true q); inside = tt; asking-none = not-asking }
 
-    shows-ended : at (r .mark .line) (byteOf r) ≡ lastGiven h → After h (does ends (inPhase phase.Ended r) w e)
-    unfolding positionAfter lastGiven
-    shows-ended same = record { shown = same; last = λ q. same; inside = tt; asking-none = not-asking }
+    shows-ended : at (r .mark .line) (byteOf r) ≡ last → After last (does ends (inPhase phase.Ended r) w e)
+    shows-ended same = record { shown = same; last-given = λ q. same; inside = tt; asking-none = not-asking }
 
 -- a search that came somewhere, of a record that stands in the window
 module _
-    (h : List Event) (r : Reader) (w e : List ℕ) (sound : Sound (r .fill)) (is : r .phase ≡ phase.Searching) (quiet : r .fill .asking ≡ false)
+    (last : Place) (r : Reader) (w e : List ℕ) (sound : Sound (r .fill)) (is : r .phase ≡ phase.Searching) (quiet : r .fill .asking ≡ false)
     (here : r .mark .start .0 < r .fill .filled)
   where
     -- the record moves to the front: it still stands in what is left
-    by-move : 0 < r .mark .start .0 → After h (makesRoom r w e)
+    by-move : 0 < r .mark .start .0 → After last (makesRoom r w e)
     by-move pos =
         let start = r .mark .start .0 in
         let left : 0 < slid start (r .fill) .filled = rw (sound-slid (r .fill) sound start (omega arith)) (omega arith) in
-        as-after (room-moves r w e pos) (asked-searching h (movedToFront r) w e is left)
+        as-after (room-moves r w e pos) (asked-searching last (movedToFront r) w e is left)
 
     -- the record moves, the window grows, or the record is refused
-    by-room : After h (makesRoom r w e)
+    by-room : After last (makesRoom r w e)
     by-room = go (decLe (r .mark .start .0) 0)
       where
-        grows : r .mark .start .0 ≤ 0 → (o : Option ℕ) → widenedTo (r .fill) ≡ o → After h (makesRoom r w e)
-        grows z none q = as-after (room-none r w e z (sym (ap (λ (o : Option ℕ). wider o (r .fill)) q))) (shows-long h r w e quiet)
+        grows : r .mark .start .0 ≤ 0 → (o : Option ℕ) → widenedTo (r .fill) ≡ o → After last (makesRoom r w e)
+        grows z none q = as-after (room-none r w e z (sym (ap (λ (o : Option ℕ). wider o (r .fill)) q))) (shows-long last r w e quiet)
         grows z (some c) q =
             as-after (room-wider r w e z (ofCapacity c (r .fill)) (sym (ap (λ (o : Option ℕ). wider o (r .fill)) q)))
-            (asked-searching h (withFill (ofCapacity c (r .fill)) r) w e is here)
+            (asked-searching last (withFill (ofCapacity c (r .fill)) r) w e is here)
 
-        go : Dec (r .mark .start .0 ≤ 0) → After h (makesRoom r w e)
+        go : Dec (r .mark .start .0 ≤ 0) → After last (makesRoom r w e)
         go (yes z) = grows z (widenedTo (r .fill)) refl
         go (no z) = by-move (omega arith)
 
     -- the end closes the record
-    by-end : r .fill .told ≡ true → After h (closed (r .mark .search .0) r w e)
+    by-end : r .fill .told ≡ true → After last (closed (r .mark .search .0) r w e)
     by-end told = go (decLe (r .slots) (r .mark .count))
       where
-        go : Dec (r .slots ≤ r .mark .count) → After h (closed (r .mark .search .0) r w e)
-        go (yes u) = as-after (closed-full r w e (r .mark .search .0) u) (shows-many h (reached (r .mark .search .0) (r .mark .count) r) w e quiet)
+        go : Dec (r .slots ≤ r .mark .count) → After last (closed (r .mark .search .0) r w e)
+        go (yes u) = as-after (closed-full r w e (r .mark .search .0) u) (shows-many last (reached (r .mark .search .0) (r .mark .count) r) w e quiet)
         go (no u) =
             as-after (closed-more r w e (r .mark .search .0) (omega arith))
-            (shows-given h (reached (r .fill .filled) (r .mark .count + 1) r) w e quiet (λ no′. absurd (false≢true (sym no′ ∙ told))))
+            (shows-given last (reached (r .fill .filled) (r .mark .count + 1) r) w e quiet (λ no′. absurd (false≢true (sym no′ ∙ told))))
 
-    by-stop : (s : Stop) → (s ≡ stop.Record → r .mark .search .0 < r .fill .filled) → After h (stopped s r w e)
-    by-stop stop.Record next = shows-given h r w e quiet (λ no′. next refl)
-    by-stop stop.Full next = shows-many h r w e quiet
+    by-stop : (s : Stop) → (s ≡ stop.Record → r .mark .search .0 < r .fill .filled) → After last (stopped s r w e)
+    by-stop stop.Record next = shows-given last r w e quiet (λ no′. next refl)
+    by-stop stop.Full next = shows-many last r w e quiet
     by-stop stop.Filled next = go (r .fill .told) refl
       where
-        go : (t : Bool) → r .fill .told ≡ t → After h (stopped stop.Filled r w e)
+        go : (t : Bool) → r .fill .told ≡ t → After last (stopped stop.Filled r w e)
         go true t = as-after (filled-told r w e t) (by-end t)
         go false t = as-after (filled-not r w e t) by-room
 
 -- a search
 module _
-    (h : List Event) (r : Reader) (w e : List ℕ) (g : Good r w e) (b : Behind true (r .mark) e) (is : r .phase ≡ phase.Searching)
+    (last : Place) (r : Reader) (w e : List ℕ) (g : Good r w e) (b : Behind true (r .mark) e) (is : r .phase ≡ phase.Searching)
     (quiet : r .fill .asking ≡ false) (here : r .mark .start .0 < r .fill .filled)
   where
     abbrev found : Recorded
@@ -195,85 +198,85 @@ module _
         let marked = subst (Stopped (take (r .fill .filled) w) (r .mark .count) (r .slots) 62 (found .out) (found .ends)) q (stops r w e g b) in
         omega (arith, marked .inside, filled-bytes r w e g)
 
-    by-hunt : After h (hunted r w e)
+    by-hunt : After last (hunted r w e)
     by-hunt =
         let other : r .mark .start .0 ≡ r .fill .filled → ⊥ = λ same. omega arith in
         as-after
         (hunt-goes r w e
         (neither (r .fill .told) (eqb (r .mark .start .0) (r .fill .filled)) (inr (ne-eqb (r .mark .start .0) (r .fill .filled) other)))
         found refl)
-        (by-stop h (reached (found .out .at) (found .out .count) r) w (found .ends) (g .is-sane .window-sound) is quiet here (found .out .stop) at-mark)
+        (by-stop last (reached (found .out .at) (found .out .count) r) w (found .ends) (g .is-sane .window-sound) is quiet here (found .out .stop) at-mark)
 
 -- a record that begins in the window
 by-begun :
-    (h : List Event) (r : Reader) (w e : List ℕ) (start line : ℕ) → Good (beginsAt start line r) w e → r .fill .asking ≡ false → start < r .fill .filled →
-    After h (hunted (beginsAt start line r) w e)
-by-begun h r w e start line g quiet here = by-hunt h (beginsAt start line r) w e g (begun-behind (beginsAt start line r) w e refl) refl quiet here
+    (last : Place) (r : Reader) (w e : List ℕ) (start line : ℕ) → Good (beginsAt start line r) w e → r .fill .asking ≡ false → start < r .fill .filled →
+    After last (hunted (beginsAt start line r) w e)
+by-begun last r w e start line g quiet here = by-hunt last (beginsAt start line r) w e g (begun-behind (beginsAt start line r) w e refl) refl quiet here
 
 -- a read, no ask being open
-module _ (h : List Event) (r : Reader) (w e : List ℕ) (g : Good r w e) (quiet : r .fill .asking ≡ false) where
-  by-lead : r .phase ≡ phase.Lead → nowhere ≡ lastGiven h → After h (led r w e)
+module _ (last : Place) (r : Reader) (w e : List ℕ) (g : Good r w e) (quiet : r .fill .asking ≡ false) where
+  by-lead : r .phase ≡ phase.Lead → nowhere ≡ last → After last (led r w e)
   by-lead is none-given = as-after (led-by r w e b refl) (go (b .undecided) refl (r .fill .told) refl (eqb (getD w (b .at) 0) 62) refl)
     where
       b : Blank
       b = leadAt (drop (r .mark .start .0) (take (r .fill .filled) w)) (r .mark .start .0) 0
 
       go :
-          (t : Bool) → b .undecided ≡ t → (u : Bool) → r .fill .told ≡ u → (v : Bool) → eqb (getD w (b .at) 0) 62 ≡ v → After h (ledTo b r w e)
-      go true t true u v x = as-after (led-on r w e b t ∙ lead-over r w e b u) (over-ends h r w e none-given)
-      go true t false u v x = as-after (led-on r w e b t ∙ lead-asks r w e b u) (asked-lead h (leadDropped b r) w e is none-given)
+          (t : Bool) → b .undecided ≡ t → (u : Bool) → r .fill .told ≡ u → (v : Bool) → eqb (getD w (b .at) 0) 62 ≡ v → After last (ledTo b r w e)
+      go true t true u v x = as-after (led-on r w e b t ∙ lead-over r w e b u) (over-ends last r w e none-given)
+      go true t false u v x = as-after (led-on r w e b t ∙ lead-asks r w e b u) (asked-lead last (leadDropped b r) w e is none-given)
       go false t u told true x =
           let i = lead-in r w e g b refl in
           as-after (led-mark r w e b t (eqb-true (getD w (b .at) 0) 62 x))
-          (by-begun h r w e (b .at) (r .mark .line + b .lines) (lead-begins r w e g b i) quiet (i .decided t))
+          (by-begun last r w e (b .at) (r .mark .line + b .lines) (lead-begins r w e g b i) quiet (i .decided t))
       go false t u told false x =
-          as-after (led-refused r w e b t (eqb-false (getD w (b .at) 0) 62 x)) (over-refused h r w e (r .mark .line + b .lines) (getD w (b .at) 0) none-given)
+          as-after (led-refused r w e b t (eqb-false (getD w (b .at) 0) 62 x)) (over-refused last r w e (r .mark .line + b .lines) (getD w (b .at) 0) none-given)
 
-  by-sought : After h (soughtAt r w e)
+  by-sought : After last (soughtAt r w e)
   by-sought = go (ltb (r .mark .start .0) (r .fill .filled) && eqb (getD w (r .mark .start .0) 0) 62) refl
     where
-      go : (t : Bool) → (ltb (r .mark .start .0) (r .fill .filled) && eqb (getD w (r .mark .start .0) 0) 62) ≡ t → After h (soughtAt r w e)
+      go : (t : Bool) → (ltb (r .mark .start .0) (r .fill .filled) && eqb (getD w (r .mark .start .0) 0) 62) ≡ t → After last (soughtAt r w e)
       go true t =
           let both = and-true (ltb (r .mark .start .0) (r .fill .filled)) (eqb (getD w (r .mark .start .0) 0) 62) t in
           let here = ltb-true (r .mark .start .0) (r .fill .filled) (both .0) in
           let m = g .is-sane in
           as-after (sought-mark r w e here (eqb-true (getD w (r .mark .start .0) 0) 62 (both .1)))
-          (by-begun h r w e (r .mark .start .0) (r .mark .line)
+          (by-begun last r w e (r .mark .start .0) (r .mark .line)
           (begins-good r w e g (r .mark .start .0) (r .mark .line) (omega arith) (m .line-least) (m .line-most)) quiet here)
-      go false t = as-after (sought-astray r w e t) (astray h r w e)
+      go false t = as-after (sought-astray r w e t) (astray last r w e)
 
   -- behind a current record
   by-behind :
-      at (r .mark .line) (byteOf r) ≡ lastGiven h → (r .fill .told ≡ false → r .mark .search .0 < r .fill .filled) → After h (behind r w e)
+      at (r .mark .line) (byteOf r) ≡ last → (r .fill .told ≡ false → r .mark .search .0 < r .fill .filled) → After last (behind r w e)
   by-behind same next = go (r .fill .told) refl (eqb (r .mark .search .0) (r .fill .filled)) refl
     where
-      goes-on : (r .fill .told && eqb (r .mark .search .0) (r .fill .filled)) ≡ false → r .mark .search .0 < r .fill .filled → After h (behind r w e)
+      goes-on : (r .fill .told && eqb (r .mark .search .0) (r .fill .filled)) ≡ false → r .mark .search .0 < r .fill .filled → After last (behind r w e)
       goes-on t here = as-after (behind-next r w e t) (waiting (ready (r .fill)) refl)
         where
-          waiting : (u : Bool) → ready (r .fill) ≡ u → After h (whenReady hunted (passed r) w e)
+          waiting : (u : Bool) → ready (r .fill) ≡ u → After last (whenReady hunted (passed r) w e)
           waiting true u =
               as-after (is-ready hunted (passed r) w e u)
-              (by-begun h r w e (r .mark .search .0) (r .mark .line + r .mark .count) (passed-good r w e g) quiet here)
-          waiting false u = as-after (waits hunted (passed r) w e u) (asked-searching h (passed r) w e refl here)
+              (by-begun last r w e (r .mark .search .0) (r .mark .line + r .mark .count) (passed-good r w e g) quiet here)
+          waiting false u = as-after (waits hunted (passed r) w e u) (asked-searching last (passed r) w e refl here)
 
-      go : (t : Bool) → r .fill .told ≡ t → (u : Bool) → eqb (r .mark .search .0) (r .fill .filled) ≡ u → After h (behind r w e)
+      go : (t : Bool) → r .fill .told ≡ t → (u : Bool) → eqb (r .mark .search .0) (r .fill .filled) ≡ u → After last (behind r w e)
       go true t true u =
-          as-after (behind-ended r w e t (eqb-true (r .mark .search .0) (r .fill .filled) u)) (shows-ended h r w e quiet same)
+          as-after (behind-ended r w e t (eqb-true (r .mark .search .0) (r .fill .filled) u)) (shows-ended last r w e quiet same)
       go true t false u =
           goes-on (neither (r .fill .told) (eqb (r .mark .search .0) (r .fill .filled)) (inr u))
           (⊎-elim (λ q. absurd (eqb-false (r .mark .search .0) (r .fill .filled) u q)) (λ less. less) (eq-or-lt-of-le (g .is-sane .search-filled)))
       go false t u q = goes-on (rw t) (next t)
 
 -- a read
-module _ (X : List ℕ) (C : ℕ) (h : List Event) (r : Reader) (w e : List ℕ) (t : Tells X C r w e) (k : Shows (r .phase) h r) where
+module _ (X : List ℕ) (C : ℕ) (now last : Place) (r : Reader) (w e : List ℕ) (t : Tells X C r w e) (k : Shows (r .phase) now last r) where
   g : Good r w e
   g = t .is-good
 
   -- it waits for a full window or the end
-  waiting : (f : Reader → List ℕ → List ℕ → Did) → After h (asked r w e) → After h (f r w e) → After h (whenReady f r w e)
+  waiting : (f : Reader → List ℕ → List ℕ → Did) → After last (asked r w e) → After last (f r w e) → After last (whenReady f r w e)
   waiting f ask then′ = go (ready (r .fill)) refl
     where
-      go : (u : Bool) → ready (r .fill) ≡ u → After h (whenReady f r w e)
+      go : (u : Bool) → ready (r .fill) ≡ u → After last (whenReady f r w e)
       go true u = as-after (is-ready f r w e u) then′
       go false u = as-after (waits f r w e u) ask
 
@@ -281,37 +284,35 @@ module _ (X : List ℕ) (C : ℕ) (h : List Event) (r : Reader) (w e : List ℕ)
   on = inPhase phase.Searching r
 
   -- a record that is searched on
-  by-onward : isSearching (r .phase) ≡ true → r .fill .asking ≡ false → r .mark .start .0 < r .fill .filled → After h (onward r w e)
+  by-onward : isSearching (r .phase) ≡ true → r .fill .asking ≡ false → r .mark .start .0 < r .fill .filled → After last (onward r w e)
   by-onward is quiet here = go (ready (r .fill)) refl
     where
-      go : (u : Bool) → ready (r .fill) ≡ u → After h (onward r w e)
+      go : (u : Bool) → ready (r .fill) ≡ u → After last (onward r w e)
       go true u =
           let b = t .is-behind is in
           as-after (onward-goes r w e u ∙ on-rising r w e (kept-rising r w e (kept-searched r w e g b) refl))
-          (by-hunt h on w e (searching-good r w e g) b refl quiet here)
-      go false u = as-after (onward-waits r w e u) (asked-searching h on w e refl here)
+          (by-hunt last on w e (searching-good r w e g) b refl quiet here)
+      go false u = as-after (onward-waits r w e u) (asked-searching last on w e refl here)
 
   -- a reader at rest says the same again
-  rests : (p : Phase) (s : Said) → r .phase ≡ p → Shows p h r → shownIn p r ≡ positionAfter (read s ∷ h) → lastGiven (read s ∷ h) ≡ lastGiven h → After h (does s r w e)
+  rests : (p : Phase) (s : Said) → r .phase ≡ p → Shows p now last r → shownIn p r ≡ placeRead s last → lastRead s last ≡ last → After last (does s r w e)
   rests p s is k′ shown same =
-      in-phase r p is (record { shown = shown; last = λ q. k′ .last q ∙ sym same; inside = k′ .inside; asking-none = k′ .asking-none })
+      in-phase r p is (record { shown = shown; last-given = λ q. k′ .last q ∙ sym same; inside = k′ .inside; asking-none = k′ .asking-none })
 
-  by-phase : (p : Phase) → r .phase ≡ p → Shows p h r → (lasts p ≡ false → r .fill .asking ≡ false) → After h (readIn p r w e)
-  unfolding positionAfter lastGiven
+  by-phase : (p : Phase) → r .phase ≡ p → Shows p now last r → (lasts p ≡ false → r .fill .asking ≡ false) → After last (readIn p r w e)
   by-phase phase.Lead is k′ quiet =
-      waiting led (asked-lead h r w e is (k′ .last refl)) (by-lead h r w e g (quiet refl) is (k′ .last refl))
-  by-phase phase.Sought is k′ quiet = waiting soughtAt (asked-sought h r w e is) (by-sought h r w e g (quiet refl))
+      waiting led (asked-lead last r w e is (k′ .last-given refl)) (by-lead last r w e g (quiet refl) is (k′ .last-given refl))
+  by-phase phase.Sought is k′ quiet = waiting soughtAt (asked-sought last r w e is) (by-sought last r w e g (quiet refl))
   by-phase phase.Searching is k′ quiet = by-onward (ap isSearching is) (quiet refl) (k′ .inside)
-  by-phase phase.Current is k′ quiet = by-behind h r w e g (quiet refl) (k′ .last refl) (k′ .inside)
-  by-phase phase.Ended is k′ quiet = rests phase.Ended ends is k′ (k′ .last refl) refl
-  by-phase phase.Over is k′ quiet = rests phase.Over ends is k′ (k′ .last refl) refl
+  by-phase phase.Current is k′ quiet = by-behind last r w e g (quiet refl) (k′ .last-given refl) (k′ .inside)
+  by-phase phase.Ended is k′ quiet = rests phase.Ended ends is k′ (k′ .last-given refl) refl
+  by-phase phase.Over is k′ quiet = rests phase.Over ends is k′ (k′ .last-given refl) refl
   by-phase phase.Window is k′ quiet = rests phase.Window _ is k′ refl refl
   by-phase phase.Table is k′ quiet = rests phase.Table _ is k′ refl refl
   by-phase phase.Astray is k′ quiet = rests phase.Astray _ is k′ refl refl
   by-phase phase.Ahead is k′ quiet = by-onward (ap isSearching is) (quiet refl) (k′ .inside)
 
-  after-read : After h (readOf r w e)
-  unfolding positionAfter lastGiven
+  after-read : After last (readOf r w e)
   after-read = go (r .fill .asking) refl (lasts (r .phase)) refl
     where
       sane′ : sane r ≡ true
@@ -320,13 +321,13 @@ module _ (X : List ℕ) (C : ℕ) (h : List Event) (r : Reader) (w e : List ℕ)
       lent′ : lentAs r (length w) (length e) ≡ true
       lent′ = lent-true r w e (g .window-lent) (g .table-lent)
 
-      goes : (not (lasts (r .phase)) && r .fill .asking) ≡ false → (lasts (r .phase) ≡ false → r .fill .asking ≡ false) → After h (readOf r w e)
+      goes : (not (lasts (r .phase)) && r .fill .asking) ≡ false → (lasts (r .phase) ≡ false → r .fill .asking ≡ false) → After last (readOf r w e)
       goes q quiet = as-after (read-goes r w e sane′ lent′ q) (by-phase (r .phase) refl k quiet)
 
-      go : (a : Bool) → r .fill .asking ≡ a → (l : Bool) → lasts (r .phase) ≡ l → After h (readOf r w e)
+      go : (a : Bool) → r .fill .asking ≡ a → (l : Bool) → lasts (r .phase) ≡ l → After last (readOf r w e)
       go true a false l =
           as-after (read-repeats r w e sane′ lent′ l a)
-          (record { shown = k .asking-none a; last = k .last; inside = k .inside; asking-none = k .asking-none })
+          (record { shown = k .asking-none a; last-given = k .last-given; inside = k .inside; asking-none = k .asking-none })
       go true a true l = goes (rw l) (λ q. absurd (false≢true (sym q ∙ l)))
       go false a l q = goes (neither (not (lasts (r .phase))) (r .fill .asking) (inr a)) (λ q. a)
 
@@ -357,40 +358,37 @@ module _ (r : Reader) (f : Fill) (based : f .base ≡ r .fill .base) where
     inside-fill phase.Astray k = tt
     inside-fill phase.Ahead k = omega arith
 
-    shows-fill : (h : List Event) (n : ℕ) → f .asking ≡ false → Shows (r .phase) h r → Shows (r .phase) (brought n ∷ h) (withFill f r)
-    unfolding positionAfter lastGiven
-    shows-fill h n quiet k =
+    shows-fill : (now last : Place) → f .asking ≡ false → Shows (r .phase) now last r → Shows (r .phase) now last (withFill f r)
+    shows-fill now last quiet k =
         record {
           shown = shown-fill (r .phase) ∙ k .shown;
-          last = λ q. shown-fill (r .phase) ∙ k .last q;
+          last-given = λ q. shown-fill (r .phase) ∙ k .last-given q;
           inside = inside-fill (r .phase) (k .inside);
           asking-none = λ q. absurd (false≢true (sym quiet ∙ q));
         }
 
 -- the calls beside reads
-module _ (X : List ℕ) (C : ℕ) (h : List Event) (r : Reader) (w e : List ℕ) (t : Tells X C r w e) (k : Shows (r .phase) h r) where
-  after-report : (n : ℕ) → reportOf n r .refusal ≡ none → Shows (reportOf n r .reader .phase) (brought n ∷ h) (reportOf n r .reader)
+module _ (X : List ℕ) (C : ℕ) (now last : Place) (r : Reader) (w e : List ℕ) (t : Tells X C r w e) (k : Shows (r .phase) now last r) where
+  after-report : (n : ℕ) → reportOf n r .refusal ≡ none → Shows (reportOf n r .reader .phase) now last (reportOf n r .reader)
   after-report n is =
-      subst (λ (l : Left). Shows (l .reader .phase) (brought n ∷ h) (l .reader)) (sym (taken X C r w e t n is .reader-is)) (go n)
+      subst (λ (l : Left). Shows (l .reader .phase) now last (l .reader)) (sym (taken X C r w e t n is .reader-is)) (go n)
     where
-      go : (m : ℕ) → Shows (r .phase) (brought n ∷ h) (withFill (filledBy m (r .fill)) r)
-      go zero = shows-fill r (filledBy 0 (r .fill)) refl (omega arith) (λ q. absurd (false≢true (sym q))) h n refl k
-      go (suc m) = shows-fill r (filledBy (suc m) (r .fill)) refl (omega arith) (λ q. q) h n refl k
+      go : (m : ℕ) → Shows (r .phase) now last (withFill (filledBy m (r .fill)) r)
+      go zero = shows-fill r (filledBy 0 (r .fill)) refl (omega arith) (λ q. absurd (false≢true (sym q))) now last refl k
+      go (suc m) = shows-fill r (filledBy (suc m) (r .fill)) refl (omega arith) (λ q. q) now last refl k
 
-  after-seek : (line byte : ℕ) → seekOf line byte r .refusal ≡ none → Shows (seekOf line byte r .reader .phase) (sought line byte ∷ h) (seekOf line byte r .reader)
-  unfolding positionAfter
+  after-seek : (line byte : ℕ) → seekOf line byte r .refusal ≡ none → Shows (seekOf line byte r .reader .phase) nowhere nowhere (seekOf line byte r .reader)
   after-seek line byte is =
       let found = seeks X C r w e t line byte is in
-      subst (λ (l : Left). Shows (l .reader .phase) (sought line byte ∷ h) (l .reader)) (sym (found .1 .done-is))
+      subst (λ (l : Left). Shows (l .reader .phase) nowhere nowhere (l .reader)) (sym (found .1 .done-is))
       (in-phase (found .0) phase.Sought (found .1 .in-phase)
-      (record { shown = refl; last = λ q. absurd (false≢true q); inside = tt; asking-none = λ q. refl }))
+      (record { shown = refl; last-given = λ q. absurd (false≢true q); inside = tt; asking-none = λ q. refl }))
 
   -- a call that is refused changes nothing
-  after-refused : (q : Reader) (n : ℕ) → q ≡ r → Shows (q .phase) (refused n ∷ h) q
-  unfolding positionAfter lastGiven
-  after-refused q n is =
-      subst (λ (o : Reader). Shows (o .phase) (refused n ∷ h) o) (sym is)
-      (record { shown = k .shown; last = k .last; inside = k .inside; asking-none = k .asking-none })
+  after-refused : (q : Reader) → q ≡ r → Shows (q .phase) now last q
+  after-refused q is =
+      subst (λ (o : Reader). Shows (o .phase) now last o) (sym is)
+      (record { shown = k .shown; last-given = k .last-given; inside = k .inside; asking-none = k .asking-none })
 
 module _ (X : List ℕ) (capacity : ℕ) (policy : Policy) (start : State) (is : Made capacity policy start) where
   abbrev C : ℕ

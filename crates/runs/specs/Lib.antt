@@ -9,3 +9,4 @@ pub mod Served
 pub mod Resume
 pub mod Standing
 pub mod Samples
+pub mod Listed

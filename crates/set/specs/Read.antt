@@ -1,7 +1,7 @@
 -- What a set call answers and leaves (01, module 6 and refusal 12): "the filled bytes are copied, with start and line ends per record, for every record
 -- from the current place that is whole in the window, fits the set's tables and meets no refusal; at least one. The rest is read next. An ask,
 -- the end or a refusal leaves the set untouched with count 0." Order: 11, its byte length, then 2 to 5, then its tables. Assumes nothing.
-use Prim.Native.Nat.{ℕ, zero, suc, _+_}
+use Prim.Native.Nat.{ℕ, zero, suc, _+_, _≤_}
 use mathlib.Core.Bool.{Bool, true, false, cond, _&&_}
 use mathlib.Core.List.{List, [], _∷_}
 use mathlib.Core.Path.{_≡_}
@@ -13,8 +13,11 @@ use Rattle.reader.specs.declared.state.Reader.{Reader}
 use Rattle.reader.specs.State.{sane, lentAs}
 use Rattle.reader.specs.Read as read
 use Rattle.reader.specs.Read.{Did, readOf}
-use Rattle.reader.specs.Look.{Looked, whole, unfinished, over, denied, lookOf, putBackOf}
+use Rattle.reader.specs.Look.{Seen, Looked, whole, unfinished, over, denied, lookOf, putBackOf}
 use Rattle.set.specs.declared.state.Set.{Set}
+use Rattle.set.specs.declared.state.Filled.{Filled}
+use Rattle.set.specs.declared.state.Filled.the-variants as filled
+use Rattle.set.specs.declared.state.NextSet.{NextSet}
 use Rattle.set.specs.Set.{sound}
 
 -- what is said: an ask, a set of so many records and bytes, the end, or a refusal by its number with its values
@@ -40,6 +43,11 @@ gatheredBy r e g = record { reader = r; table = e; count = g .count; used = g .u
 abbrev pub fits : Gathered → Bool
 fits g = leb (g .used + g .reader .mark .count) (length (g .ends))
 
+-- the table of marks has room for one record more, and that of ends for the ends of the current one
+pub record Fitting (r : Reader) (count used : ℕ) (marks es : List ℕ) : Type 0 where
+  pub marks-fit : count + count + 2 ≤ length marks
+  pub ends-fit : used + r .mark .count ≤ length es
+
 -- the current record behind those that the set has
 abbrev pub put : Gathered → Gathered
 put g =
@@ -58,22 +66,24 @@ put g =
 abbrev pub back : Gathered → Gathered
 back g = gatheredBy (putBackOf (g .reader)) (g .table) g
 
+abbrev pub isWhole : Seen → Bool
+isWhole (whole l b) = true
+isWhole unfinished = false
+isWhole over = false
+isWhole (denied n) = false
+
+-- by what a look saw: a whole record goes on, any other is left to the next call
+abbrev pub byLook : (more : Gathered → Gathered) → Gathered → Looked → Gathered
+byLook more g k =
+    let q = gatheredBy (k .reader) (k .table) g in
+    elim (k .seen) [ whole l b ↦ more q | unfinished ↦ q | over ↦ q | denied n ↦ q ]
+
 -- More records, of which the table has room for so many: as long as the next one is whole in the window and fits.
 unfoldable pub gather : (room : ℕ) (w : List ℕ) → Gathered → Gathered
 unfolding lookOf putBackOf
-gather zero w g =
-    let k = lookOf (g .reader) w (g .table) in
-    let q = gatheredBy (k .reader) (k .table) g in
-    elim (k .seen) [ whole l b ↦ back q | unfinished ↦ q | over ↦ q | denied n ↦ q ]
+gather zero w g = byLook (λ (q : Gathered). back q) g (lookOf (g .reader) w (g .table))
 gather (suc room) w g =
-    let k = lookOf (g .reader) w (g .table) in
-    let q = gatheredBy (k .reader) (k .table) g in
-    elim (k .seen) [
-      | whole l b ↦ elim (fits q) [ true ↦ gather room w (put q) | false ↦ back q ]
-      | unfinished ↦ q
-      | over ↦ q
-      | denied n ↦ q
-    ]
+    byLook (λ (q : Gathered). elim (fits q) [ true ↦ gather room w (put q) | false ↦ back q ]) g (lookOf (g .reader) w (g .table))
 
 -- how many records a table of marks has room for
 abbrev pub pairs : List ℕ → ℕ
@@ -96,6 +106,20 @@ pub record Called : Type 0 where
 abbrev pub emptied : Set → Set
 emptied s = record { filled = s .filled; count = 0; line = s .line; base = s .base }
 
+-- a set of the gathered records; the reader stood at the first
+abbrev pub holding : Reader → Gathered → (w bytes : List ℕ) → Called
+holding first g w bytes =
+    record {
+      said = holds (g .count) (first .fill .filled);
+      reader = g .reader;
+      window = w;
+      table = g .table;
+      set = record { filled = first .fill .filled; count = g .count; line = first .mark .line; base = first .fill .base };
+      bytes = bytes;
+      marks = g .marks;
+      ends = g .ends;
+    }
+
 module _ (s : Set) (bytes marks es : List ℕ) where
   -- the set's slices untouched
   abbrev pub leaves : Said → Reader → (w e : List ℕ) → Set → Called
@@ -107,23 +131,7 @@ module _ (s : Set) (bytes marks es : List ℕ) where
 
   -- the filled bytes are copied, and the tables are as they were gathered; d is what the read of the first record left
   abbrev pub filledWith : Did → Gathered → Called
-  filledWith d g =
-      record {
-        said = holds (g .count) (d .reader .fill .filled);
-        reader = g .reader;
-        window = d .window;
-        table = g .table;
-        set =
-            record {
-              filled = d .reader .fill .filled;
-              count = g .count;
-              line = d .reader .mark .line;
-              base = d .reader .fill .base;
-            };
-        bytes = pasted 0 (take (d .reader .fill .filled) (d .window)) bytes;
-        marks = g .marks;
-        ends = g .ends;
-      }
+  filledWith d g = holding (d .reader) g (d .window) (pasted 0 (take (d .reader .fill .filled) (d .window)) bytes)
 
   -- behind the first record, of which the table of marks has room for so many: "the next record doesn't fit its tables .. the next read gives that record"
   abbrev pub collectedIn : (room : ℕ) → Did → Called
@@ -147,3 +155,36 @@ module _ (s : Set) (bytes marks es : List ℕ) where
       cond (sane r && lentAs r (length w) (length e) && sound s (length bytes) (length marks))
       (cond (ltb (length bytes) (length w)) (refused12 r w e) (afterRead (d .said) d))
       (leaves (refuses 11 []) r w e s)
+
+-- a reader on its way, written flat: what the loop that gathers holds
+abbrev pub gathered : Reader → (table : List ℕ) (count used : ℕ) (marks es : List ℕ) → Gathered
+gathered r e count used marks es = record { reader = r; table = e; count = count; used = used; marks = marks; ends = es }
+
+-- what is said by an answer, with 01's numbers
+abbrev pub saidBy : Filled → Said
+saidBy (filled.Ask a) = asks (a .place .0) (a .room) (a .offset .0)
+saidBy (filled.Records count n) = holds count n
+saidBy filled.End = ends
+saidBy (filled.Start l x) = refuses 2 (l ∷ x ∷ [])
+saidBy (filled.Window p) = refuses 3 (p .line ∷ p .byte .0 ∷ [])
+saidBy (filled.Table p) = refuses 4 (p .line ∷ p .byte .0 ∷ [])
+saidBy filled.Place = refuses 5 []
+saidBy filled.State = refuses 11 []
+saidBy filled.Room = refuses 12 []
+
+abbrev pub called : NextSet → (w e bytes marks es : List ℕ) → Called
+called n w e bytes marks es =
+    record {
+      said = saidBy (n .answer);
+      reader = n .reader;
+      window = w;
+      table = e;
+      set = n .set;
+      bytes = bytes;
+      marks = marks;
+      ends = es;
+    }
+
+-- the promise of `next_set`
+abbrev pub SetIs : Set → (bytes marks es : List ℕ) → Reader → (w e : List ℕ) → NextSet → (w′ e′ bytes′ marks′ es′ : List ℕ) → Type 0
+SetIs s bytes marks es r w e n w′ e′ bytes′ marks′ es′ = called n w′ e′ bytes′ marks′ es′ ≡ setOf s bytes marks es r w e

@@ -5,5 +5,6 @@ pub mod Cases
 pub mod Joins
 pub mod Places
 pub mod Meaning
+pub mod Within
 pub mod Inside
 pub mod Unique

@@ -54,14 +54,18 @@ count-of (n.Lines k) = refl
 count-of n.NoRecord = refl
 count-of n.State = refl
 
-one-view : {x : view.Shown} (r s : View) → view.says r ≡ x → view.says s ≡ x → r ≡ s
+-- one answer, and one scratch, for what is said
+pub one-view : {x : view.Shown} (r s : View) → view.says r ≡ x → view.says s ≡ x → r ≡ s
 one-view r s p q = sym (view-of r) ∙ ap viewOf (p ∙ sym q) ∙ view-of s
 
-one-full : {x : full.Left} (r s : Full) (exit exit′ : List ℕ)
+pub one-full : {x : full.Left} (r s : Full) (exit exit′ : List ℕ)
     → full.left (full.says r) exit ≡ x → full.left (full.says s) exit′ ≡ x → (r ≡ s) × (exit ≡ exit′)
 one-full r s exit exit′ p q =
     let e = p ∙ sym q in
     (sym (full-of r) ∙ ap (λ (l : full.Left). fullOf (l .answer)) e ∙ full-of s, ap (λ (l : full.Left). l .scratch) e)
+
+pub one-count : {x : current.Counted} (r s : Count) → current.counts r ≡ x → current.counts s ≡ x → r ≡ s
+one-count r s p q = sym (count-of r) ∙ ap countOf (p ∙ sym q) ∙ count-of s
 
 pub head-unique : (w : List ℕ) (start : ℕ) (ends : List ℕ) (r s : View) → HeadIn w start ends r → HeadIn w start ends s → r ≡ s
 head-unique w start ends = one-view
@@ -108,7 +112,7 @@ pub current-line-unique : (reader : Reader) (w ends : List ℕ) (i : ℕ) (r s :
 current-line-unique reader w ends i = one-view
 
 pub current-lines-unique : (reader : Reader) (w ends : List ℕ) (r s : Count) → LinesOf reader w ends r → LinesOf reader w ends s → r ≡ s
-current-lines-unique reader w ends r s p q = sym (count-of r) ∙ ap countOf (p ∙ sym q) ∙ count-of s
+current-lines-unique reader w ends = one-count
 
 pub current-full-unique : (reader : Reader) (w ends scratch : List ℕ) (r s : Full) (exit exit′ : List ℕ)
     → FullSeq reader w ends scratch r exit → FullSeq reader w ends scratch s exit′ → (r ≡ s) × (exit ≡ exit′)

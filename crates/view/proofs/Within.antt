@@ -1,4 +1,5 @@
--- What a view names lies in the bytes that it was given, so that it shows the same in a longer window. Assumes nothing.
+-- What a view names lies in the bytes that it was given, so that it shows the same in a longer window: a record that stands in the first bytes of
+-- a window is shown there as the input's meaning has it. Assumes nothing.
 use Prim.Native.Nat.{ℕ, suc, _+_, _-_, _≤_, _<_}
 use native.Mathlib.Decide.{decLe}
 use native.Mathlib.Omega.{arith}
@@ -8,19 +9,22 @@ use mathlib.Core.Option.{Option, none as without, some}
 use mathlib.Core.Path.{_≡_, refl, sym, ap, _∙_}
 use lib.ListN.{length, getD, take, drop, length-drop}
 use lib.Seq.{take-take, length-take-le}
-use lib.Dec.{ltb, leb}
-use Rattle.meaning.specs.Parts.{idOf, descOf}
+use lib.Dec.{eqb, ltb, leb}
+use borrow.Author.Tests.{eqb-true, eqb-false}
+use Rattle.meaning.specs.Input.{Rec}
+use Rattle.meaning.specs.Parts.{headOf, seqLines, seqOf, idOf, descOf}
 use Rattle.view.specs.Rising.{rising}
 use Rattle.view.specs.View.{Shown, part, none, refuses, ifRising, lineOf, headIn, idIn, descIn, lineIn, after, between}
 use Rattle.view.specs.Full.{Whole, window, front, refuses as refuses9, filled, joinedAt, wholeAt, fullIn, picked}
 use Rattle.view.specs.Shows.{Shows}
 use Rattle.view.proofs.Rises.{first-inside, rising-next}
 use Rattle.view.proofs.Heads.{id-within, desc-none, desc-some, line-within}
 use Rattle.view.proofs.Cases.{between-in}
 use Rattle.view.proofs.Places.{drop-take}
+use Rattle.view.proofs.Meaning.{Stands, head-shows, id-shows, desc-shows, line-shows, full-shows, full-one-shows}
 
 -- the part that is named lies in n bytes
-abbrev pub Within : (n : ℕ) → Shown → Type 0
+abbrev Within : (n : ℕ) → Shown → Type 0
 Within n (part from to) = (from ≤ to) × (to ≤ n)
 Within n none = Unit {0}
 Within n (refuses number values) = Unit {0}
@@ -34,7 +38,7 @@ between-wider n w a e h k l =
     ∙ sym (ap (take (e - a)) (drop-take a n w (omega arith)))
     ∙ sym (between-in (take n w) a e k l)
 
-pub shows-wider : (n : ℕ) (w : List ℕ) (s : Shown) (text : Option (List ℕ)) → n ≤ length w → Within (length (take n w)) s → Shows (take n w) s text → Shows w s text
+shows-wider : (n : ℕ) (w : List ℕ) (s : Shown) (text : Option (List ℕ)) → n ≤ length w → Within (length (take n w)) s → Shows (take n w) s text → Shows w s text
 shows-wider n w (part from to) (some text) h k s = between-wider n w from to h (k .0) (k .1) ∙ s
 shows-wider n w (part from to) without h k s = s
 shows-wider n w none text h k s = go text s
@@ -59,18 +63,18 @@ line-in : (w : List ℕ) (a e : ℕ) → a ≤ e → e ≤ length w → a + leng
 line-in w a e h k = omega (arith, line-within w a e k)
 
 module _ (w : List ℕ) (start : ℕ) where
-  pub head-within : (ends : List ℕ) → Within (length w) (headIn w start ends)
+  head-within : (ends : List ℕ) → Within (length w) (headIn w start ends)
   unfolding headIn
   head-within [] = tt
   head-within (e ∷ es) = by-rising w start e [] _ (λ a b c. (omega arith, line-in w (suc start) e a b))
 
-  pub id-in : (ends : List ℕ) → Within (length w) (idIn w start ends)
+  id-in : (ends : List ℕ) → Within (length w) (idIn w start ends)
   unfolding idIn
   id-in [] = tt
   id-in (e ∷ es) =
       by-rising w start e [] _ (λ a b c. (omega arith, omega (arith, line-in w (suc start) e a b, id-within (lineOf w (suc start) e))))
 
-  pub desc-in : (ends : List ℕ) → Within (length w) (descIn w start ends)
+  desc-in : (ends : List ℕ) → Within (length w) (descIn w start ends)
   unfolding descIn
   desc-in [] = tt
   desc-in (e ∷ es) = by-rising w start e [] _ (λ a b c. go a b (decLe (length h) (length (idOf h))))
@@ -84,7 +88,7 @@ module _ (w : List ℕ) (start : ℕ) where
           rw (desc-some h (omega arith))
           (omega arith, omega (arith, line-in w (suc start) e a b, length-drop (suc (length (idOf h))) h))
 
-  pub line-in′ : (ends : List ℕ) (i : ℕ) → Within (length w) (lineIn w start ends i)
+  line-in′ : (ends : List ℕ) (i : ℕ) → Within (length w) (lineIn w start ends i)
   unfolding lineIn
   line-in′ [] i = tt
   line-in′ (e ∷ es) i = go (ltb i (length es)) refl
@@ -130,7 +134,7 @@ full-in w start (e ∷ es) scratch = go (rising start (e ∷ es) (length w)) ref
         rw t (whole-in w e es scratch (sym (rising-next start e es (length w) (i .0) (i .1)) ∙ t))
 
 -- so it is picked from the longer window too
-pub picked-wider : (n : ℕ) (w : List ℕ) (start : ℕ) (ends scratch exit : List ℕ) → n ≤ length w
+picked-wider : (n : ℕ) (w : List ℕ) (start : ℕ) (ends scratch exit : List ℕ) → n ≤ length w
     → picked w exit (fullIn (take n w) start ends scratch .answer) ≡ picked (take n w) exit (fullIn (take n w) start ends scratch .answer)
 unfolding picked
 picked-wider n w start ends scratch exit h =
@@ -140,3 +144,30 @@ picked-wider n w start ends scratch exit h =
     go (window from to) k = between-wider n w from to h (k .0) (k .1)
     go (front m) k = refl
     go (refuses9 number values) k = refl
+
+-- a record that stands in the first bytes, as it is shown in all of them
+module _ (n : ℕ) (w : List ℕ) (start : ℕ) (r : Rec) (ends : List ℕ) (fits : n ≤ length w) (s : Stands (take n w) start r ends) where
+  pub head-wider : Shows w (headIn (take n w) start ends) (some (headOf r))
+  head-wider = shows-wider n w (headIn (take n w) start ends) (some (headOf r)) fits (head-within (take n w) start ends) (head-shows (take n w) start r ends s)
+
+  pub id-wider : Shows w (idIn (take n w) start ends) (some (idOf (headOf r)))
+  id-wider = shows-wider n w (idIn (take n w) start ends) (some (idOf (headOf r))) fits (id-in (take n w) start ends) (id-shows (take n w) start r ends s)
+
+  pub desc-wider : Shows w (descIn (take n w) start ends) (descOf (headOf r))
+  desc-wider = shows-wider n w (descIn (take n w) start ends) (descOf (headOf r)) fits (desc-in (take n w) start ends) (desc-shows (take n w) start r ends s)
+
+  pub line-wider : (i : ℕ) → i < length (seqLines r) → Shows w (lineIn (take n w) start ends i) (some (getD (seqLines r) i []))
+  line-wider i h = shows-wider n w (lineIn (take n w) start ends i) (some (getD (seqLines r) i [])) fits (line-in′ (take n w) start ends i) (line-shows (take n w) start r ends s i h)
+
+  -- the full sequence, where the scratch has room for it or one line needs none
+  pub full-wider : (scratch : List ℕ) → length (seqOf r) ≤ length scratch
+      → picked w (fullIn (take n w) start ends scratch .scratch) (fullIn (take n w) start ends scratch .answer) ≡ seqOf r
+  full-wider scratch room =
+      picked-wider n w start ends scratch (fullIn (take n w) start ends scratch .scratch) fits ∙ go (eqb (length (seqLines r)) 1) refl
+    where
+      go : (t : Bool) → eqb (length (seqLines r)) 1 ≡ t
+          → picked (take n w) (fullIn (take n w) start ends scratch .scratch) (fullIn (take n w) start ends scratch .answer) ≡ seqOf r
+      go false u = full-shows (take n w) start r ends s scratch (eqb-false (length (seqLines r)) 1 u) room
+      go true u =
+          let one = full-one-shows (take n w) start r ends s scratch (eqb-true (length (seqLines r)) 1 u) in
+          ap (λ (q : List ℕ). picked (take n w) q (fullIn (take n w) start ends scratch .answer)) (one .1) ∙ one .0

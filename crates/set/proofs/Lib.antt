@@ -1,0 +1,8 @@
+-- Laws of gathering a set's records, of a set call, of a record by its number, and that a promise allows one answer.
+pub mod Gathering
+pub mod CallLaws
+pub mod Numbers
+pub mod Inside
+pub mod Places
+pub mod Shown
+pub mod UniqueViews
