@@ -89,8 +89,8 @@ lastRead (refuses n vs) last = last
 abbrev After : (last : Place) → Did → Type 0
 After last d = Shows (d .reader .phase) (placeRead (d .said) last) (lastRead (d .said) last) (d .reader)
 
-as-after : {last : Place} {d o : Did} → d ≡ o → After last o → After last d
-as-after {last} is k = subst (After last) (sym is) k
+as-after : (last : Place) {d o : Did} → d ≡ o → After last o → After last d
+as-after last is k = subst (After last) (sym is) k
 
 -- the same reader in the phase that it has
 in-phase : {now last : Place} (r : Reader) (p : Phase) → r .phase ≡ p → Shows p now last r → Shows (r .phase) now last r
@@ -149,16 +149,16 @@ module _
     by-move pos =
         let start = r .mark .start .0 in
         let left : 0 < slid start (r .fill) .filled = rw (sound-slid (r .fill) sound start (omega arith)) (omega arith) in
-        as-after (room-moves r w e pos) (asked-searching last (movedToFront r) w e is left)
+        as-after last (room-moves r w e pos) (asked-searching last (movedToFront r) w e is left)
 
     -- the record moves, the window grows, or the record is refused
     by-room : After last (makesRoom r w e)
     by-room = go (decLe (r .mark .start .0) 0)
       where
         grows : r .mark .start .0 ≤ 0 → (o : Option ℕ) → widenedTo (r .fill) ≡ o → After last (makesRoom r w e)
-        grows z none q = as-after (room-none r w e z (sym (ap (λ (o : Option ℕ). wider o (r .fill)) q))) (shows-long last r w e quiet)
+        grows z none q = as-after last (room-none r w e z (sym (ap (λ (o : Option ℕ). wider o (r .fill)) q))) (shows-long last r w e quiet)
         grows z (some c) q =
-            as-after (room-wider r w e z (ofCapacity c (r .fill)) (sym (ap (λ (o : Option ℕ). wider o (r .fill)) q)))
+            as-after last (room-wider r w e z (ofCapacity c (r .fill)) (sym (ap (λ (o : Option ℕ). wider o (r .fill)) q)))
             (asked-searching last (withFill (ofCapacity c (r .fill)) r) w e is here)
 
         go : Dec (r .mark .start .0 ≤ 0) → After last (makesRoom r w e)
@@ -170,9 +170,9 @@ module _
     by-end told = go (decLe (r .slots) (r .mark .count))
       where
         go : Dec (r .slots ≤ r .mark .count) → After last (closed (r .mark .search .0) r w e)
-        go (yes u) = as-after (closed-full r w e (r .mark .search .0) u) (shows-many last (reached (r .mark .search .0) (r .mark .count) r) w e quiet)
+        go (yes u) = as-after last (closed-full r w e (r .mark .search .0) u) (shows-many last (reached (r .mark .search .0) (r .mark .count) r) w e quiet)
         go (no u) =
-            as-after (closed-more r w e (r .mark .search .0) (omega arith))
+            as-after last (closed-more r w e (r .mark .search .0) (omega arith))
             (shows-given last (reached (r .fill .filled) (r .mark .count + 1) r) w e quiet (λ no′. absurd (false≢true (sym no′ ∙ told))))
 
     by-stop : (s : Stop) → (s ≡ stop.Record → r .mark .search .0 < r .fill .filled) → After last (stopped s r w e)
@@ -181,8 +181,8 @@ module _
     by-stop stop.Filled next = go (r .fill .told) refl
       where
         go : (t : Bool) → r .fill .told ≡ t → After last (stopped stop.Filled r w e)
-        go true t = as-after (filled-told r w e t) (by-end t)
-        go false t = as-after (filled-not r w e t) by-room
+        go true t = as-after last (filled-told r w e t) (by-end t)
+        go false t = as-after last (filled-not r w e t) by-room
 
 -- a search
 module _
@@ -201,7 +201,7 @@ module _
     by-hunt : After last (hunted r w e)
     by-hunt =
         let other : r .mark .start .0 ≡ r .fill .filled → ⊥ = λ same. omega arith in
-        as-after
+        as-after last
         (hunt-goes r w e
         (neither (r .fill .told) (eqb (r .mark .start .0) (r .fill .filled)) (inr (ne-eqb (r .mark .start .0) (r .fill .filled) other)))
         found refl)
@@ -216,21 +216,21 @@ by-begun last r w e start line g quiet here = by-hunt last (beginsAt start line 
 -- a read, no ask being open
 module _ (last : Place) (r : Reader) (w e : List ℕ) (g : Good r w e) (quiet : r .fill .asking ≡ false) where
   by-lead : r .phase ≡ phase.Lead → nowhere ≡ last → After last (led r w e)
-  by-lead is none-given = as-after (led-by r w e b refl) (go (b .undecided) refl (r .fill .told) refl (eqb (getD w (b .at) 0) 62) refl)
+  by-lead is none-given = as-after last (led-by r w e b refl) (go (b .undecided) refl (r .fill .told) refl (eqb (getD w (b .at) 0) 62) refl)
     where
       b : Blank
       b = leadAt (drop (r .mark .start .0) (take (r .fill .filled) w)) (r .mark .start .0) 0
 
       go :
           (t : Bool) → b .undecided ≡ t → (u : Bool) → r .fill .told ≡ u → (v : Bool) → eqb (getD w (b .at) 0) 62 ≡ v → After last (ledTo b r w e)
-      go true t true u v x = as-after (led-on r w e b t ∙ lead-over r w e b u) (over-ends last r w e none-given)
-      go true t false u v x = as-after (led-on r w e b t ∙ lead-asks r w e b u) (asked-lead last (leadDropped b r) w e is none-given)
+      go true t true u v x = as-after last (led-on r w e b t ∙ lead-over r w e b u) (over-ends last r w e none-given)
+      go true t false u v x = as-after last (led-on r w e b t ∙ lead-asks r w e b u) (asked-lead last (leadDropped b r) w e is none-given)
       go false t u told true x =
           let i = lead-in r w e g b refl in
-          as-after (led-mark r w e b t (eqb-true (getD w (b .at) 0) 62 x))
+          as-after last (led-mark r w e b t (eqb-true (getD w (b .at) 0) 62 x))
           (by-begun last r w e (b .at) (r .mark .line + b .lines) (lead-begins r w e g b i) quiet (i .decided t))
       go false t u told false x =
-          as-after (led-refused r w e b t (eqb-false (getD w (b .at) 0) 62 x)) (over-refused last r w e (r .mark .line + b .lines) (getD w (b .at) 0) none-given)
+          as-after last (led-refused r w e b t (eqb-false (getD w (b .at) 0) 62 x)) (over-refused last r w e (r .mark .line + b .lines) (getD w (b .at) 0) none-given)
 
   by-sought : After last (soughtAt r w e)
   by-sought = go (ltb (r .mark .start .0) (r .fill .filled) && eqb (getD w (r .mark .start .0) 0) 62) refl
@@ -240,10 +240,10 @@ module _ (last : Place) (r : Reader) (w e : List ℕ) (g : Good r w e) (quiet : 
           let both = and-true (ltb (r .mark .start .0) (r .fill .filled)) (eqb (getD w (r .mark .start .0) 0) 62) t in
           let here = ltb-true (r .mark .start .0) (r .fill .filled) (both .0) in
           let m = g .is-sane in
-          as-after (sought-mark r w e here (eqb-true (getD w (r .mark .start .0) 0) 62 (both .1)))
+          as-after last (sought-mark r w e here (eqb-true (getD w (r .mark .start .0) 0) 62 (both .1)))
           (by-begun last r w e (r .mark .start .0) (r .mark .line)
           (begins-good r w e g (r .mark .start .0) (r .mark .line) (omega arith) (m .line-least) (m .line-most)) quiet here)
-      go false t = as-after (sought-astray r w e t) (astray last r w e)
+      go false t = as-after last (sought-astray r w e t) (astray last r w e)
 
   -- behind a current record
   by-behind :
@@ -251,17 +251,17 @@ module _ (last : Place) (r : Reader) (w e : List ℕ) (g : Good r w e) (quiet : 
   by-behind same next = go (r .fill .told) refl (eqb (r .mark .search .0) (r .fill .filled)) refl
     where
       goes-on : (r .fill .told && eqb (r .mark .search .0) (r .fill .filled)) ≡ false → r .mark .search .0 < r .fill .filled → After last (behind r w e)
-      goes-on t here = as-after (behind-next r w e t) (waiting (ready (r .fill)) refl)
+      goes-on t here = as-after last (behind-next r w e t) (waiting (ready (r .fill)) refl)
         where
           waiting : (u : Bool) → ready (r .fill) ≡ u → After last (whenReady hunted (passed r) w e)
           waiting true u =
-              as-after (is-ready hunted (passed r) w e u)
+              as-after last (is-ready hunted (passed r) w e u)
               (by-begun last r w e (r .mark .search .0) (r .mark .line + r .mark .count) (passed-good r w e g) quiet here)
-          waiting false u = as-after (waits hunted (passed r) w e u) (asked-searching last (passed r) w e refl here)
+          waiting false u = as-after last (waits hunted (passed r) w e u) (asked-searching last (passed r) w e refl here)
 
       go : (t : Bool) → r .fill .told ≡ t → (u : Bool) → eqb (r .mark .search .0) (r .fill .filled) ≡ u → After last (behind r w e)
       go true t true u =
-          as-after (behind-ended r w e t (eqb-true (r .mark .search .0) (r .fill .filled) u)) (shows-ended last r w e quiet same)
+          as-after last (behind-ended r w e t (eqb-true (r .mark .search .0) (r .fill .filled) u)) (shows-ended last r w e quiet same)
       go true t false u =
           goes-on (neither (r .fill .told) (eqb (r .mark .search .0) (r .fill .filled)) (inr u))
           (⊎-elim (λ q. absurd (eqb-false (r .mark .search .0) (r .fill .filled) u q)) (λ less. less) (eq-or-lt-of-le (g .is-sane .search-filled)))
@@ -277,8 +277,8 @@ module _ (X : List ℕ) (C : ℕ) (now last : Place) (r : Reader) (w e : List �
   waiting f ask then′ = go (ready (r .fill)) refl
     where
       go : (u : Bool) → ready (r .fill) ≡ u → After last (whenReady f r w e)
-      go true u = as-after (is-ready f r w e u) then′
-      go false u = as-after (waits f r w e u) ask
+      go true u = as-after last (is-ready f r w e u) then′
+      go false u = as-after last (waits f r w e u) ask
 
   abbrev on : Reader
   on = inPhase phase.Searching r
@@ -290,9 +290,9 @@ module _ (X : List ℕ) (C : ℕ) (now last : Place) (r : Reader) (w e : List �
       go : (u : Bool) → ready (r .fill) ≡ u → After last (onward r w e)
       go true u =
           let b = t .is-behind is in
-          as-after (onward-goes r w e u ∙ on-rising r w e (kept-rising r w e (kept-searched r w e g b) refl))
+          as-after last (onward-goes r w e u ∙ on-rising r w e (kept-rising r w e (kept-searched r w e g b) refl))
           (by-hunt last on w e (searching-good r w e g) b refl quiet here)
-      go false u = as-after (onward-waits r w e u) (asked-searching last on w e refl here)
+      go false u = as-after last (onward-waits r w e u) (asked-searching last on w e refl here)
 
   -- a reader at rest says the same again
   rests : (p : Phase) (s : Said) → r .phase ≡ p → Shows p now last r → shownIn p r ≡ placeRead s last → lastRead s last ≡ last → After last (does s r w e)
@@ -322,11 +322,11 @@ module _ (X : List ℕ) (C : ℕ) (now last : Place) (r : Reader) (w e : List �
       lent′ = lent-true r w e (g .window-lent) (g .table-lent)
 
       goes : (not (lasts (r .phase)) && r .fill .asking) ≡ false → (lasts (r .phase) ≡ false → r .fill .asking ≡ false) → After last (readOf r w e)
-      goes q quiet = as-after (read-goes r w e sane′ lent′ q) (by-phase (r .phase) refl k quiet)
+      goes q quiet = as-after last (read-goes r w e sane′ lent′ q) (by-phase (r .phase) refl k quiet)
 
       go : (a : Bool) → r .fill .asking ≡ a → (l : Bool) → lasts (r .phase) ≡ l → After last (readOf r w e)
       go true a false l =
-          as-after (read-repeats r w e sane′ lent′ l a)
+          as-after last (read-repeats r w e sane′ lent′ l a)
           (record { shown = k .asking-none a; last-given = k .last-given; inside = k .inside; asking-none = k .asking-none })
       go true a true l = goes (rw l) (λ q. absurd (false≢true (sym q ∙ l)))
       go false a l q = goes (neither (not (lasts (r .phase))) (r .fill .asking) (inr a)) (λ q. a)
