@@ -1,3 +1,4 @@
 -- Laws of gathering a set's records.
 pub mod Gathering
 pub mod CallLaws
+pub mod Unique

@@ -8,7 +8,6 @@ use mathlib.Core.Path.{_≡_}
 use lib.ListN.{length, take, set}
 use lib.Dec.{eqb, ltb, leb}
 use Rattle.scan.specs.Move.{pasted}
-use Rattle.window.specs.declared.offset.InputOffset.{InputOffset}
 use Rattle.reader.specs.declared.state.Reader.{Reader}
 use Rattle.reader.specs.State.{sane, lentAs}
 use Rattle.reader.specs.Read as read
