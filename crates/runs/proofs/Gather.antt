@@ -1,6 +1,6 @@
 -- A set's records are the next ones that are due (01, module 6): each record that is gathered was due next, stands in the set's tables with its start and
 -- its ends, and what is due then is what is left. Assumes nothing.
-use Prim.Native.Nat.{ℕ, zero, suc, _+_, _≤_, _<_}
+use Prim.Native.Nat.{ℕ, zero, suc, _+_, _-_, _≤_, _<_}
 use native.Mathlib.Omega.{arith}
 use mathlib.Core.Bool.{Bool, true, false, cond, _&&_, false≢true}
 use mathlib.Core.List.{List, [], _∷_, _++_, map, append-nil, append-assoc}
@@ -32,7 +32,8 @@ use Rattle.reader.proofs.ReadLaws.{lent-true}
 use Rattle.reader.proofs.Kept.{isSearching, goesOn}
 use Rattle.reader.proofs.LookLaws.{shut-full, shut-more, to-told, to-not, on-found, look-over, look-waits, look-goes, look-behind, put-current}
 use Rattle.set.specs.Set.{endsBefore}
-use Rattle.set.specs.Read.{Gathered, gatheredBy, fits, put, back, gather}
+use Rattle.set.specs.Read.{Gathered, gatheredBy, fits, put, back, isWhole, gather}
+use Rattle.set.proofs.Gathering.{gather-stops, gather-full, gather-misfit, gather-on}
 use Rattle.runs.proofs.Tells.{Dues, judge, unlessOver, atSought, fromHere, endsOf, dueSearched, dueIn, dueTo, later, isWindow, isTable, Rests, Tells, Holds, Says, Answers, Same}
 use Rattle.runs.proofs.Look.{Sees, Looks, look-steps, put-back-tells, put-back-same, look-put-back}
 use Rattle.runs.proofs.Begun.{at-rest}
@@ -108,12 +109,6 @@ later-record m [] k = absurd (false≢true (sym k))
 later-record m (a ∷ rest) k = refl
 
 -- ---- a record that a look sees whole
-
-abbrev isWhole : Seen → Bool
-isWhole (whole l b) = true
-isWhole unfinished = false
-isWhole over = false
-isWhole (denied n) = false
 
 -- a look leaves the window as it is, and a whole record stands on the line behind the lines of the current one
 record Next (r : Reader) (d : Looked) : Type 0 where
@@ -274,32 +269,6 @@ module _ (X : List ℕ) (C : ℕ) (w : List ℕ) (f : Fill) (T line : ℕ) (D : 
   abbrev then′ : Gathered → Gathered
   then′ g = gatheredBy (seenIn g .reader) (seenIn g .table) g
 
-  -- the clauses of `gather`
-  gather-on : (room : ℕ) (g : Gathered) (l b : ℕ) → seenIn g .seen ≡ whole l b → fits (then′ g) ≡ true → gather (suc room) w g ≡ gather room w (put (then′ g))
-  unfolding gather
-  gather-on room g l b is fit = rw (is, gather, fit)
-
-  gather-back : (room : ℕ) (g : Gathered) (l b : ℕ) → seenIn g .seen ≡ whole l b → fits (then′ g) ≡ false → gather (suc room) w g ≡ back (then′ g)
-  unfolding gather
-  gather-back room g l b is fit = rw (is, gather, fit)
-
-  gather-full : (g : Gathered) (l b : ℕ) → seenIn g .seen ≡ whole l b → gather zero w g ≡ back (then′ g)
-  unfolding gather
-  gather-full g l b is = rw (is, gather)
-
-  gather-stop : (room : ℕ) (g : Gathered) → isWhole (seenIn g .seen) ≡ false → gather room w g ≡ then′ g
-  unfolding gather
-  gather-stop room g no′ = go room (seenIn g .seen) refl no′
-    where
-      go : (room : ℕ) (a : Seen) → seenIn g .seen ≡ a → isWhole a ≡ false → gather room w g ≡ then′ g
-      go room (whole l b) is n = absurd (false≢true (sym n))
-      go zero unfinished is n = rw (is, gather)
-      go zero over is n = rw (is, gather)
-      go zero (denied k) is n = rw (is, gather)
-      go (suc room) unfinished is n = rw (is, gather)
-      go (suc room) over is n = rw (is, gather)
-      go (suc room) (denied k) is n = rw (is, gather)
-
   -- by what a look sees
   module _ (room : ℕ) (g : Gathered) (ms : List Mark) (k : Going room g ms) where
     abbrev r : Reader
@@ -379,10 +348,10 @@ module _ (X : List ℕ) (C : ℕ) (w : List ℕ) (f : Fill) (T line : ℕ) (D : 
   gathers-all zero g ms k = go (seenIn g .seen) refl
     where
       go : (a : Seen) → seenIn g .seen ≡ a → All ms (gather zero w g)
-      go (whole l b) is = subst (All ms) (sym (gather-full g l b is)) (none-more ms (back (then′ g)) (backs zero g ms k l b is))
-      go unfinished is = subst (All ms) (sym (gather-stop zero g (ap isWhole is))) (none-more ms (then′ g) (stops zero g ms k (ap isWhole is)))
-      go over is = subst (All ms) (sym (gather-stop zero g (ap isWhole is))) (none-more ms (then′ g) (stops zero g ms k (ap isWhole is)))
-      go (denied n) is = subst (All ms) (sym (gather-stop zero g (ap isWhole is))) (none-more ms (then′ g) (stops zero g ms k (ap isWhole is)))
+      go (whole l b) is = subst (All ms) (sym (gather-full w g (seenIn g .seen) (seenIn g .reader) (seenIn g .table) refl (ap isWhole is))) (none-more ms (back (then′ g)) (backs zero g ms k l b is))
+      go unfinished is = subst (All ms) (sym (gather-stops w g (seenIn g .seen) (seenIn g .reader) (seenIn g .table) refl zero (ap isWhole is))) (none-more ms (then′ g) (stops zero g ms k (ap isWhole is)))
+      go over is = subst (All ms) (sym (gather-stops w g (seenIn g .seen) (seenIn g .reader) (seenIn g .table) refl zero (ap isWhole is))) (none-more ms (then′ g) (stops zero g ms k (ap isWhole is)))
+      go (denied n) is = subst (All ms) (sym (gather-stops w g (seenIn g .seen) (seenIn g .reader) (seenIn g .table) refl zero (ap isWhole is))) (none-more ms (then′ g) (stops zero g ms k (ap isWhole is)))
   gathers-all (suc room) g ms k = go (seenIn g .seen) refl (fits (then′ g)) refl (λ h ns j. gathers-all room h ns j)
     where
       go :
@@ -390,14 +359,15 @@ module _ (X : List ℕ) (C : ℕ) (w : List ℕ) (f : Fill) (T line : ℕ) (D : 
           All ms (gather (suc room) w g)
       go (whole l b) is true fit on =
           let m = seen (suc room) g ms k l b is .mark in
+          let less : suc room - 1 ≡ room = omega arith in
           let rest = on (put (then′ g)) (ms ++ (m ∷ [])) (more (suc room) g ms k l b is room refl fit) in
-          subst (All ms) (sym (gather-on room g l b is fit))
+          subst (All ms) (sym (gather-on w g (seenIn g .seen) (seenIn g .reader) (seenIn g .table) refl (ap isWhole is) (suc room) (λ z. omega arith) fit ∙ ap (λ (i : ℕ). gather i w (put (then′ g))) less))
           (record { more = m ∷ rest .more; gathers = subst (Gathers (gather room w (put (then′ g)))) (append-assoc ms (m ∷ []) (rest .more)) (rest .gathers) })
       go (whole l b) is false fit on =
-          subst (All ms) (sym (gather-back room g l b is fit)) (none-more ms (back (then′ g)) (backs (suc room) g ms k l b is))
+          subst (All ms) (sym (gather-misfit w g (seenIn g .seen) (seenIn g .reader) (seenIn g .table) refl (ap isWhole is) (suc room) fit)) (none-more ms (back (then′ g)) (backs (suc room) g ms k l b is))
       go unfinished is t fit on =
-          subst (All ms) (sym (gather-stop (suc room) g (ap isWhole is))) (none-more ms (then′ g) (stops (suc room) g ms k (ap isWhole is)))
+          subst (All ms) (sym (gather-stops w g (seenIn g .seen) (seenIn g .reader) (seenIn g .table) refl (suc room) (ap isWhole is))) (none-more ms (then′ g) (stops (suc room) g ms k (ap isWhole is)))
       go over is t fit on =
-          subst (All ms) (sym (gather-stop (suc room) g (ap isWhole is))) (none-more ms (then′ g) (stops (suc room) g ms k (ap isWhole is)))
+          subst (All ms) (sym (gather-stops w g (seenIn g .seen) (seenIn g .reader) (seenIn g .table) refl (suc room) (ap isWhole is))) (none-more ms (then′ g) (stops (suc room) g ms k (ap isWhole is)))
       go (denied n) is t fit on =
-          subst (All ms) (sym (gather-stop (suc room) g (ap isWhole is))) (none-more ms (then′ g) (stops (suc room) g ms k (ap isWhole is)))
+          subst (All ms) (sym (gather-stops w g (seenIn g .seen) (seenIn g .reader) (seenIn g .table) refl (suc room) (ap isWhole is))) (none-more ms (then′ g) (stops (suc room) g ms k (ap isWhole is)))

@@ -54,12 +54,14 @@ module _ (s : Set) (bytes : ℕ) (marks : List ℕ) (ends i : ℕ) where
   record-none e h = rw (e, le-ltb i (s .count) h)
 
   -- it has no end
-  pub record-endless : sound s bytes (length marks) ≡ true → i < s .count → endsTo marks i ≤ endsBefore marks i → recordOf s bytes marks ends i ≡ missing 11
+  pub record-endless : sound s bytes (length marks) ≡ true → i < s .count → endsTo marks i ≤ endsBefore marks i
+      → recordOf s bytes marks ends i ≡ missing 11
   unfolding recordOf
   record-endless e h k = rw (e, lt-ltb i (s .count) h, le-ltb (endsBefore marks i) (endsTo marks i) k)
 
   -- or ends that do not lie in the table
-  pub record-beyond : sound s bytes (length marks) ≡ true → i < s .count → endsBefore marks i < endsTo marks i → ends < endsTo marks i → recordOf s bytes marks ends i ≡ missing 11
+  pub record-beyond : sound s bytes (length marks) ≡ true → i < s .count → endsBefore marks i < endsTo marks i → ends < endsTo marks i
+      → recordOf s bytes marks ends i ≡ missing 11
   unfolding recordOf
   record-beyond e h k l =
       rw (e, lt-ltb i (s .count) h, lt-ltb (endsBefore marks i) (endsTo marks i) k, lt-leb (endsTo marks i) ends l)

@@ -1,5 +1,5 @@
--- A record that stands in the filled bytes of a set, by its start and its ends, is shown by the set's views as the input's meaning has it, and its
--- position is its place in the input. Assumes nothing.
+-- A record that stands in the filled bytes of a set, by its start and its ends, is shown by the set's views and written by its writers as the input's
+-- meaning has it, and its position is its place in the input. Assumes nothing.
 use Prim.Native.Nat.{ℕ, _+_, _-_, _≤_}
 use mathlib.Core.List.{List, []}
 use mathlib.Core.Option.{Option, some}
@@ -17,10 +17,13 @@ use Rattle.view.specs.Shows.{Shows}
 use Rattle.view.specs.Current.{refused, are, refuses}
 use Rattle.view.proofs.Meaning.{Stands, count-is}
 use Rattle.view.proofs.Within.{head-wider, id-wider, desc-wider, line-wider, full-wider}
+use Rattle.rewrite.specs.Rewrite as rewrite
+use Rattle.rewrite.specs.Rewrite.{writtenIn, wrappedIn, unchangedIn}
+use Rattle.rewrite.proofs.Meaning.{write-is, write-wrap-is, write-unchanged-is}
 use Rattle.set.specs.declared.state.Set.{Set}
 use Rattle.set.specs.Set.{Record, held, recordOf, ofHeld, ofRecord}
 use Rattle.set.specs.Record.{placeHeld}
-use Rattle.set.specs.Shown.{ShowsAt}
+use Rattle.set.specs.Shown.{ShowsAt, WritesAt}
 use Rattle.set.proofs.Inside.{Inside, record-inside}
 use Rattle.set.proofs.Places.{placed-at}
 
@@ -54,6 +57,23 @@ module _ (s : Set) (bytes marks ends : List ℕ) (i : ℕ) (start filled from to
             let e = ap (ofHeld bytes ends (λ w start es. fullIn w start es scratch) (λ n. full.left (full.refuses n []) scratch)) is in
             subst (λ (o : Left). picked bytes (o .scratch) (o .answer) ≡ seqOf r) (sym e)
             (full-wider filled bytes start r es fits stands scratch room);
+      }
+
+  pub writes-at : Stands (take filled bytes) start r es → WritesAt s bytes marks ends i r
+  writes-at stands =
+      record {
+        write =
+            λ out.
+            ap (ofHeld bytes ends (λ w start es. writtenIn w start es out) (λ n. rewrite.refused n out)) is
+            ∙ write-is (take filled bytes) start r es stands out;
+        write-wrap =
+            λ wrap out.
+            ap (ofHeld bytes ends (λ w start es. wrappedIn w start es wrap out) (λ n. rewrite.refused n out)) is
+            ∙ write-wrap-is (take filled bytes) start r es stands wrap out;
+        write-unchanged =
+            λ out.
+            ap (ofHeld bytes ends (λ w start es. unchangedIn w start es out) (λ n. rewrite.refused n out)) is
+            ∙ write-unchanged-is (take filled bytes) start r es stands out;
       }
 
   -- its position, where line and byte are the record's

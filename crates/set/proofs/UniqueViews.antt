@@ -1,6 +1,6 @@
 -- Any two answers that one promise of a set's record allows are the same, and so are the scratch and the output. Assumes nothing.
 use Prim.Native.Nat.{ℕ}
-use mathlib.Core.Bool.{cond}
+use mathlib.Core.Bool.{Bool, cond}
 use mathlib.Core.List.{List}
 use mathlib.Core.Path.{_≡_, refl, sym, ap, _∙_}
 use lib.Dec.{eqb}
@@ -17,7 +17,7 @@ use Rattle.set.specs.declared.record.Held.the-variants as held′
 use Rattle.set.specs.declared.record.Place.{Place}
 use Rattle.set.specs.declared.record.Place.the-variants as place
 use Rattle.set.specs.Set.{Record, held, missing}
-use Rattle.set.specs.Record.{heldBy, RecordIs, placedBy, PositionIs}
+use Rattle.set.specs.Record.{IsSound, heldBy, RecordIs, placedBy, PositionIs}
 use Rattle.set.specs.Views.{Head, Id, Desc, Seq, Line, LinesOf, FullSeq, Write, WriteWrap, WriteUnchanged}
 
 -- the answer that says it
@@ -39,6 +39,9 @@ place-of : (p : Place) → placeOf (placedBy p) ≡ p
 place-of (place.At p) = refl
 place-of place.None = refl
 place-of place.State = refl
+
+pub is-sound-unique : (s : Set) (bytes marks : ℕ) (r r′ : Bool) → IsSound s bytes marks r → IsSound s bytes marks r′ → r ≡ r′
+is-sound-unique s bytes marks r r′ p q = p ∙ sym q
 
 pub record-unique : (s : Set) (bytes : ℕ) (marks : List ℕ) (ends i : ℕ) (r r′ : Held)
     → RecordIs s bytes marks ends i r → RecordIs s bytes marks ends i r′ → r ≡ r′

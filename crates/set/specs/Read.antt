@@ -8,7 +8,6 @@ use mathlib.Core.Path.{_≡_}
 use lib.ListN.{length, take, set}
 use lib.Dec.{eqb, ltb, leb}
 use Rattle.scan.specs.Move.{pasted}
-use Rattle.window.specs.declared.offset.InputOffset.{InputOffset}
 use Rattle.reader.specs.declared.state.Reader.{Reader}
 use Rattle.reader.specs.State.{sane, lentAs}
 use Rattle.reader.specs.Read as read
@@ -36,8 +35,11 @@ pub record Gathered : Type 0 where
   pub marks : List ℕ
   pub ends : List ℕ
 
+abbrev pub gathered : Reader → (table : List ℕ) (count used : ℕ) (marks es : List ℕ) → Gathered
+gathered r e count used marks es = record { reader = r; table = e; count = count; used = used; marks = marks; ends = es }
+
 abbrev pub gatheredBy : Reader → (table : List ℕ) → Gathered → Gathered
-gatheredBy r e g = record { reader = r; table = e; count = g .count; used = g .used; marks = g .marks; ends = g .ends }
+gatheredBy r e g = gathered r e (g .count) (g .used) (g .marks) (g .ends)
 
 -- the ends of the current record fit the table
 abbrev pub fits : Gathered → Bool
@@ -137,7 +139,7 @@ module _ (s : Set) (bytes marks es : List ℕ) where
   abbrev pub collectedIn : (room : ℕ) → Did → Called
   collectedIn zero d = refused12 (putBackOf (d .reader)) (d .window) (d .table)
   collectedIn (suc room) d =
-      let g : Gathered = record { reader = d .reader; table = d .table; count = 0; used = 0; marks = marks; ends = es } in
+      let g = gathered (d .reader) (d .table) 0 0 marks es in
       cond (fits g) (filledWith d (gather room (d .window) (put g))) (refused12 (putBackOf (d .reader)) (d .window) (d .table))
 
   -- what follows the read of the next record, by what it said; 11 changes nothing, the set's count neither
@@ -155,10 +157,6 @@ module _ (s : Set) (bytes marks es : List ℕ) where
       cond (sane r && lentAs r (length w) (length e) && sound s (length bytes) (length marks))
       (cond (ltb (length bytes) (length w)) (refused12 r w e) (afterRead (d .said) d))
       (leaves (refuses 11 []) r w e s)
-
--- a reader on its way, written flat: what the loop that gathers holds
-abbrev pub gathered : Reader → (table : List ℕ) (count used : ℕ) (marks es : List ℕ) → Gathered
-gathered r e count used marks es = record { reader = r; table = e; count = count; used = used; marks = marks; ends = es }
 
 -- what is said by an answer, with 01's numbers
 abbrev pub saidBy : Filled → Said

@@ -1,6 +1,6 @@
 -- The promises of a set's record by its number and of its position (01, module 6, refusals 11, then 7). Assumes nothing.
 use Prim.Native.Nat.{ℕ, _+_}
-use mathlib.Core.Bool.{cond}
+use mathlib.Core.Bool.{Bool, cond}
 use mathlib.Core.List.{List}
 use mathlib.Core.Path.{_≡_}
 use Rattle.reader.specs.Calls as calls
@@ -10,7 +10,10 @@ use Rattle.set.specs.declared.record.Held.{Held}
 use Rattle.set.specs.declared.record.Held.the-variants as held′
 use Rattle.set.specs.declared.record.Place.{Place}
 use Rattle.set.specs.declared.record.Place.the-variants as place
-use Rattle.set.specs.Set.{Record, held, missing, recordOf}
+use Rattle.set.specs.Set.{sound, Record, held, missing, recordOf}
+
+abbrev pub IsSound : Set → (bytes marks : ℕ) → Bool → Type 0
+IsSound s bytes marks r = r ≡ sound s bytes marks
 
 abbrev pub heldBy : Held → Record
 heldBy (held′.At start filled from to) = held start filled from to

@@ -1,4 +1,5 @@
-// One set call (01, module 6, refusal 12).
+// One set call (01, module 6, refusals 11 and 12): the read of the first record, then a look at each one behind it as long as it is whole in the window and
+// fits the set's tables, then the copy of the filled bytes.
 use crate::state::Filled;
 use crate::state::NextSet;
 use crate::state::Set;
@@ -7,13 +8,13 @@ use reader::Current;
 use reader::Next;
 use reader::Reader;
 use reader::Sight;
+ghost use Prim.Native.Nat.{ℕ, suc, _+_, _≤_};
+ghost use mathlib.Core.Bool.{_&&_};
+ghost use mathlib.Core.List.{List, []};
 ghost use mathlib.Core.Path.{_≡_};
 ghost use lib.ListN.{length, take};
-ghost use Rattle.scan.specs.Move.{pasted};
-ghost use Prim.Native.Nat.{ℕ, suc, _+_, _≤_};
-ghost use mathlib.Core.List.{List, []};
 ghost use lib.Dec.{leb};
-ghost use mathlib.Core.Bool.{_&&_};
+ghost use Rattle.scan.specs.Move.{pasted};
 ghost use Rattle.reader.specs.State.{sane, lentAs};
 ghost use Rattle.reader.specs.Read as read;
 ghost use Rattle.reader.specs.Read.{did, does};
@@ -46,6 +47,57 @@ pub fn next_set(
     after_read(next, window, table, set, bytes, marks, ends)
 }
 
+// Refusal 11 is not due for the reader and its lent lengths, but for its ends.
+fn is_lent(reader: Reader, window: usize, table: usize) -> bool
+    ensures { λ r. ⌜ r ≡ (sane reader && lentAs reader window table) ⌝ }
+{
+    let current = reader.current(window, table);
+    match current {
+        Current::At {
+            start: _,
+            filled: _,
+            count: _,
+        } => true,
+        Current::None => true,
+        Current::State => false,
+    }
+}
+
+// Nor is it for the set: its count and filled are not above its lent lengths.
+fn is_sound(set: Set, bytes: usize, marks: usize) -> bool
+    ensures { λ r. ⌜ r ≡ sound set bytes marks ⌝ }
+{
+    if bytes < set.filled {
+        return false;
+    }
+    if marks < set.count {
+        return false;
+    }
+    set.count <= marks - set.count
+}
+
+// Refusal 11: nothing changes, the set's count neither.
+fn refuse_state(reader: Reader, set: Set) -> NextSet
+    ensures { λ n. ⌜ ((w e bytes marks es : List ℕ) → called n w e bytes marks es ≡ leaves set bytes marks es (refuses 11 []) reader w e set) ⌝ }
+{
+    NextSet {
+        reader,
+        set,
+        answer: Filled::State,
+    }
+}
+
+// An ask, the end or a refusal: the set is untouched, with count 0.
+fn leave(reader: Reader, set: Set, answer: Filled) -> NextSet
+    ensures { λ n. ⌜ ((w e bytes marks es : List ℕ) → called n w e bytes marks es ≡ leaves set bytes marks es (saidBy answer) reader w e (emptied set)) ⌝ }
+{
+    NextSet {
+        reader,
+        set: Set { count: 0, ..set },
+        answer,
+    }
+}
+
 // What follows the read of the first record, by its answer.
 fn after_read(
     next: Next,
@@ -72,86 +124,54 @@ fn after_read(
     }
 }
 
-// Refusal 11: nothing changes, the set's count neither.
-fn refuse_state(reader: Reader, set: Set) -> NextSet
-    ensures { λ n. ⌜ ((w e bytes marks es : List ℕ) → called n w e bytes marks es ≡ leaves set bytes marks es (refuses 11 []) reader w e set) ⌝ }
+// The first record is current: it and those behind it that fit go into the set, or it is found again by the next call.
+fn collect(
+    reader: Reader,
+    window: &[u8],
+    table: &mut [usize],
+    set: Set,
+    bytes: &mut [u8],
+    marks: &mut [usize],
+    ends: &mut [usize],
+) -> NextSet
+    ensures { λ n. ⌜ ((s : read.Said) → called n (now (window .entry)) (now (table .exit)) (now (bytes .exit)) (now (marks .exit)) (now (ends .exit)) ≡ collectedIn set (now (bytes .entry)) (now (marks .entry)) (now (ends .entry)) (pairs (now (marks .entry))) (does s reader (now (window .entry)) (now (table .entry)))) ⌝ }
 {
+    let room = marks.len() / 2;
+    if room == 0 {
+        return leave(reader.put_back(), set, Filled::Room);
+    }
+    if !fits(reader, 0, ends.len()) {
+        return leave(reader.put_back(), set, Filled::Room);
+    }
+    let lines = put(reader, 0, 0, table, marks, ends);
+    let way = gather(reader, lines, room - 1, window, table, marks, ends);
+    let fill = reader.fill;
+    copy_filled(window, fill.filled, bytes);
+    hold(reader, way)
+}
+
+// A set of the gathered records, of which the first was current before.
+fn hold(first: Reader, way: Way) -> NextSet
+    ensures { λ n. ⌜ ((w e bytes marks es : List ℕ) → called n w e bytes marks es ≡ holding first (gathered (way .reader) e (way .count) (way .used) marks es) w bytes) ⌝ }
+{
+    let fill = first.fill;
+    let mark = first.mark;
+    let base = fill.base;
+    let reader = way.reader;
+    let set = Set {
+        filled: fill.filled,
+        count: way.count,
+        line: mark.line,
+        base,
+    };
     NextSet {
         reader,
         set,
-        answer: Filled::State,
+        answer: Filled::Records {
+            count: way.count,
+            filled: fill.filled,
+        },
     }
-}
-
-// The first `count` ends of a table, or all that it has, into `ends` from `at` on. Where they do not fit there, nothing changes.
-fn copy_ends(table: &[usize], count: usize, ends: &mut [usize], at: usize)
-    ensures { λ _. ⌜ now (ends .exit) ≡ pasted at (take count (now (table .entry))) (now (ends .entry)) ⌝ }
-{
-    if table.len() <= count {
-        paste_ends(table, ends, at);
-    } else {
-        paste_ends(&table[..count], ends, at);
-    }
-}
-
-// All ends of a table.
-fn paste_ends(src: &[usize], out: &mut [usize], at: usize)
-    ensures { λ _. ⌜ now (out .exit) ≡ pasted at (now (src .entry)) (now (out .entry)) ⌝ }
-{
-    if at <= out.len() {
-        if src.len() <= out.len() - at {
-            let mut i = 0;
-            while i < src.len() {
-                out[at + i] = src[i];
-                i += 1;
-            }
-        }
-    }
-}
-
-// The current record behind those that the set has: its start and the number of the ends up to its last, which is answered, and its ends.
-fn put(
-    reader: Reader,
-    count: usize,
-    used: usize,
-    table: &[usize],
-    marks: &mut [usize],
-    ends: &mut [usize],
-) -> usize
-    requires { ⌜ Fitting reader count used (now marks) (now ends) ⌝ }
-    ensures { λ n. ⌜ gathered reader (now (table .entry)) (suc count) n (now (marks .exit)) (now (ends .exit)) ≡ put (gathered reader (now (table .entry)) count used (now (marks .entry)) (now (ends .entry))) ⌝ }
-{
-    let mark = reader.mark;
-    let at = count + count;
-    let to = used + mark.count;
-    marks[at] = mark.start.0;
-    marks[at + 1] = to;
-    copy_ends(table, mark.count, ends, used);
-    to
-}
-
-// Whether a look saw a whole record.
-fn is_whole(sight: Sight) -> bool
-    ensures { λ r. ⌜ r ≡ isWhole (seenBy sight) ⌝ }
-{
-    match sight {
-        Sight::Whole(_) => true,
-        Sight::Unfinished => false,
-        Sight::Over => false,
-        Sight::None => false,
-        Sight::State => false,
-    }
-}
-
-// Whether the ends of the current record fit a table with so many slots, of which so many are used.
-fn fits(reader: Reader, used: usize, slots: usize) -> bool
-    ensures { λ r. ⌜ r ≡ leb (used + reader .mark .count) slots ⌝ }
-{
-    let mark = reader.mark;
-    if slots < used {
-        return false;
-    }
-    mark.count <= slots - used
 }
 
 // Where a set call stands: the reader, and how many records with how many ends the set has.
@@ -209,6 +229,77 @@ fn gather(
     }
 }
 
+// Whether a look saw a whole record.
+fn is_whole(sight: Sight) -> bool
+    ensures { λ r. ⌜ r ≡ isWhole (seenBy sight) ⌝ }
+{
+    match sight {
+        Sight::Whole(_) => true,
+        Sight::Unfinished => false,
+        Sight::Over => false,
+        Sight::None => false,
+        Sight::State => false,
+    }
+}
+
+// Whether the ends of the current record fit a table with so many slots, of which so many are used.
+fn fits(reader: Reader, used: usize, slots: usize) -> bool
+    ensures { λ r. ⌜ r ≡ leb (used + reader .mark .count) slots ⌝ }
+{
+    let mark = reader.mark;
+    if slots < used {
+        return false;
+    }
+    mark.count <= slots - used
+}
+
+// The current record behind those that the set has: its start and the number of the ends up to its last, which is answered, and its ends.
+fn put(
+    reader: Reader,
+    count: usize,
+    used: usize,
+    table: &[usize],
+    marks: &mut [usize],
+    ends: &mut [usize],
+) -> usize
+    requires { ⌜ Fitting reader count used (now marks) (now ends) ⌝ }
+    ensures { λ n. ⌜ gathered reader (now (table .entry)) (suc count) n (now (marks .exit)) (now (ends .exit)) ≡ put (gathered reader (now (table .entry)) count used (now (marks .entry)) (now (ends .entry))) ⌝ }
+{
+    let mark = reader.mark;
+    let at = count + count;
+    let to = used + mark.count;
+    marks[at] = mark.start.0;
+    marks[at + 1] = to;
+    copy_ends(table, mark.count, ends, used);
+    to
+}
+
+// The first `count` ends of a table, or all that it has, into `ends` from `at` on. Where they do not fit there, nothing changes.
+fn copy_ends(table: &[usize], count: usize, ends: &mut [usize], at: usize)
+    ensures { λ _. ⌜ now (ends .exit) ≡ pasted at (take count (now (table .entry))) (now (ends .entry)) ⌝ }
+{
+    if table.len() <= count {
+        paste_ends(table, ends, at);
+    } else {
+        paste_ends(&table[..count], ends, at);
+    }
+}
+
+// All ends of a table.
+fn paste_ends(src: &[usize], out: &mut [usize], at: usize)
+    ensures { λ _. ⌜ now (out .exit) ≡ pasted at (now (src .entry)) (now (out .entry)) ⌝ }
+{
+    if at <= out.len() {
+        if src.len() <= out.len() - at {
+            let mut i = 0;
+            while i < src.len() {
+                out[at + i] = src[i];
+                i += 1;
+            }
+        }
+    }
+}
+
 // The filled bytes of a window, or all that it has, at the front of the set's bytes. Where they do not fit there, nothing changes.
 fn copy_filled(window: &[u8], filled: usize, bytes: &mut [u8])
     ensures { λ _. ⌜ now (bytes .exit) ≡ pasted 0 (take filled (now (window .entry))) (now (bytes .entry)) ⌝ }
@@ -218,94 +309,4 @@ fn copy_filled(window: &[u8], filled: usize, bytes: &mut [u8])
     } else {
         scan::copy(&window[..filled], bytes, 0);
     }
-}
-
-// An ask, the end or a refusal: the set is untouched, with count 0.
-fn leave(reader: Reader, set: Set, answer: Filled) -> NextSet
-    ensures { λ n. ⌜ ((w e bytes marks es : List ℕ) → called n w e bytes marks es ≡ leaves set bytes marks es (saidBy answer) reader w e (emptied set)) ⌝ }
-{
-    NextSet {
-        reader,
-        set: Set { count: 0, ..set },
-        answer,
-    }
-}
-
-// A set of the gathered records, of which the first was current before.
-fn hold(first: Reader, way: Way) -> NextSet
-    ensures { λ n. ⌜ ((w e bytes marks es : List ℕ) → called n w e bytes marks es ≡ holding first (gathered (way .reader) e (way .count) (way .used) marks es) w bytes) ⌝ }
-{
-    let fill = first.fill;
-    let mark = first.mark;
-    let base = fill.base;
-    let reader = way.reader;
-    let set = Set {
-        filled: fill.filled,
-        count: way.count,
-        line: mark.line,
-        base,
-    };
-    NextSet {
-        reader,
-        set,
-        answer: Filled::Records {
-            count: way.count,
-            filled: fill.filled,
-        },
-    }
-}
-
-// Refusal 11 is not due for the reader and its lent lengths, but for its ends.
-fn is_lent(reader: Reader, window: usize, table: usize) -> bool
-    ensures { λ r. ⌜ r ≡ (sane reader && lentAs reader window table) ⌝ }
-{
-    let current = reader.current(window, table);
-    match current {
-        Current::At {
-            start: _,
-            filled: _,
-            count: _,
-        } => true,
-        Current::None => true,
-        Current::State => false,
-    }
-}
-
-// Nor for the set: its count and filled are not above its lent lengths.
-fn is_sound(set: Set, bytes: usize, marks: usize) -> bool
-    ensures { λ r. ⌜ r ≡ sound set bytes marks ⌝ }
-{
-    if bytes < set.filled {
-        return false;
-    }
-    if marks < set.count {
-        return false;
-    }
-    set.count <= marks - set.count
-}
-
-// The first record is current: it and those behind it that fit go into the set, or it is found again by the next call.
-fn collect(
-    reader: Reader,
-    window: &[u8],
-    table: &mut [usize],
-    set: Set,
-    bytes: &mut [u8],
-    marks: &mut [usize],
-    ends: &mut [usize],
-) -> NextSet
-    ensures { λ n. ⌜ ((s : read.Said) → called n (now (window .entry)) (now (table .exit)) (now (bytes .exit)) (now (marks .exit)) (now (ends .exit)) ≡ collectedIn set (now (bytes .entry)) (now (marks .entry)) (now (ends .entry)) (pairs (now (marks .entry))) (does s reader (now (window .entry)) (now (table .entry)))) ⌝ }
-{
-    let room = marks.len() / 2;
-    if room == 0 {
-        return leave(reader.put_back(), set, Filled::Room);
-    }
-    if !fits(reader, 0, ends.len()) {
-        return leave(reader.put_back(), set, Filled::Room);
-    }
-    let lines = put(reader, 0, 0, table, marks, ends);
-    let way = gather(reader, lines, room - 1, window, table, marks, ends);
-    let fill = reader.fill;
-    copy_filled(window, fill.filled, bytes);
-    hold(reader, way)
 }

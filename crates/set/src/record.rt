@@ -2,8 +2,8 @@
 ghost use mathlib.Core.Path.{_≡_};
 ghost use Prim.Native.Nat.{_+_, _<_};
 ghost use lib.ListN.{length};
-ghost use Rattle.set.specs.Set.{sound, endsBefore, endsTo, startOf};
-ghost use Rattle.set.specs.Record.{RecordIs, PositionIs, placedBy, placed};
+ghost use Rattle.set.specs.Set.{endsBefore, endsTo, startOf};
+ghost use Rattle.set.specs.Record.{IsSound, RecordIs, PositionIs, placedBy, placed};
 use crate::state::Set;
 use reader::Position;
 use window::WindowOffset;
@@ -32,7 +32,7 @@ pub enum Place {
 impl Set {
     // Refusal 11 is not due for the set's own numbers, over bytes and marks of these lengths. The sum of two counts is never made: it may wrap.
     pub fn is_sound(self, bytes: usize, marks: usize) -> bool
-        ensures { λ r. ⌜ r ≡ sound self bytes marks ⌝ }
+        ensures { λ r. ⌜ IsSound self bytes marks r ⌝ }
     {
         if bytes < self.filled || marks < self.count {
             return false;

@@ -1,6 +1,6 @@
 -- No room for the first record: it is put back. Else it is put, those behind it are gathered, and the filled bytes copied: the clauses of
 -- `collectedIn`. Assumes nothing.
-use Prim.Native.Nat.{ℕ, _+_, _-_, _/_, _≤_}
+use Prim.Native.Nat.{ℕ, _+_, _-_, _/_}
 use native.Mathlib.Omega.{arith}
 use mathlib.Core.List.{List}
 use mathlib.Core.Path.{_≡_, sym, ap, _∙_}
