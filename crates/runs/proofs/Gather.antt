@@ -263,10 +263,10 @@ module _ (X : List ℕ) (C : ℕ) (w : List ℕ) (f : Fill) (T line : ℕ) (D : 
         }
 
   -- what a look sees
-  abbrev seenIn : Gathered → Looked
+  abbrev pub seenIn : Gathered → Looked
   seenIn g = lookOf (g .reader) w (g .table)
 
-  abbrev then′ : Gathered → Gathered
+  abbrev pub then′ : Gathered → Gathered
   then′ g = gatheredBy (seenIn g .reader) (seenIn g .table) g
 
   -- by what a look sees
@@ -274,7 +274,7 @@ module _ (X : List ℕ) (C : ℕ) (w : List ℕ) (f : Fill) (T line : ℕ) (D : 
     abbrev r : Reader
     r = g .reader
 
-    step : Looks X C r w (dueTo X C r (g .table)) (seenIn g)
+    pub step : Looks X C r w (dueTo X C r (g .table)) (seenIn g)
     step = look-steps X C r w (g .table) (k .gathers .tells) (k .is-current)
 
     next : Next r (seenIn g)
@@ -311,7 +311,7 @@ module _ (X : List ℕ) (C : ℕ) (w : List ℕ) (f : Fill) (T line : ℕ) (D : 
 
     -- a whole record
     module _ (l b : ℕ) (is : seenIn g .seen ≡ whole l b) where
-      seen : Given X C l b (dueTo X C r (g .table)) (seenIn g .reader) (seenIn g .table)
+      pub seen : Given X C l b (dueTo X C r (g .table)) (seenIn g .reader) (seenIn g .table)
       seen =
           given X C l b (dueTo X C r (g .table)) (seenIn g .reader) (seenIn g .table) (closed-due (r .phase) X C r (g .table))
           (subst (λ (a : Seen). Sees a (dueTo X C r (g .table)) X C (seenIn g .reader) (seenIn g .table)) is (step .sees) .0)
@@ -328,7 +328,7 @@ module _ (X : List ℕ) (C : ℕ) (w : List ℕ) (f : Fill) (T line : ℕ) (D : 
           (at-rest (putBackOf x) (ap (λ (o : Reader). isWindow (o .phase)) same) (ap (λ (o : Reader). isTable (o .phase)) same))
           (fresh-put-back X C x w e (step .tells) at)
 
-      more : (j : ℕ) → room ≡ suc j → fits (then′ g) ≡ true → Going j (put (then′ g)) (ms ++ (seen .mark ∷ []))
+      pub more : (j : ℕ) → room ≡ suc j → fits (then′ g) ≡ true → Going j (put (then′ g)) (ms ++ (seen .mark ∷ []))
       more j left fit =
           puts j (then′ g) ms (seen .mark) (seen .holds) (step .tells) (next .fill-same ∙ k .gathers .fill-is) (next .slots-same ∙ k .gathers .slots-are)
           (next .next-line (ap isWhole is) ∙ k .next-line) (k .gathers .count-is) (k .gathers .used-is) (k .gathers .each)

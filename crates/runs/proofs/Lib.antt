@@ -28,4 +28,5 @@ pub mod Sample
 pub mod SetTable
 pub mod Gather
 pub mod SetCall
+pub mod SetPlace
 pub mod Listed

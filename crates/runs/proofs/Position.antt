@@ -5,9 +5,9 @@ use Prim.Native.Nat.{ℕ, zero, suc, _+_, _≤_, _<_}
 use native.Mathlib.Decide.{decLe}
 use native.Mathlib.Nat.{eq-or-lt-of-le}
 use native.Mathlib.Omega.{arith}
-use mathlib.Core.Bool.{Bool, true, false, not, _&&_, false≢true}
-use mathlib.Core.List.{List, [], _∷_, _++_}
-use mathlib.Core.Logic.{⊎-elim, inr}
+use mathlib.Core.Bool.{Bool, true, false, cond, not, _&&_, false≢true}
+use mathlib.Core.List.{List, [], _∷_, _++_, map}
+use mathlib.Core.Logic.{⊎-elim, inl, inr}
 use mathlib.Core.Option.{Option, none, some}
 use mathlib.Core.Path.{_≡_, refl, sym, ap, subst, _∙_}
 use lib.ListN.{length, getD, take, drop}
@@ -26,18 +26,38 @@ use Rattle.window.proofs.Laws.{sound-slid}
 use Rattle.reader.specs.declared.state.Reader.{Reader}
 use Rattle.reader.specs.declared.state.Phase.{Phase}
 use Rattle.reader.specs.declared.state.Phase.the-variants as phase
-use Rattle.reader.specs.State.{Good, byteOf, sane, lentAs, withFill, inPhase}
-use Rattle.reader.specs.Read.{Said, asks, gives, ends, refuses, Did, does, asked, given, tooLong, tooMany, reached, movedToFront, makesRoom, closed, stopped, searches, hunted, beginsAt, passed, whenReady, behind, soughtAt, onward, led, ledTo, leadDropped, lasts, readIn, readOf}
-use Rattle.reader.specs.Calls.{Left, Place, at, nowhere, shownIn, placeOf, reportOf, seekOf}
+use Rattle.reader.specs.State.{Good, byteOf, sane, lentAs, withFill, inPhase, isCurrent}
+use Rattle.reader.specs.Read.{Said, asks, gives, ends, refuses, Did, does, asked, placed, given, tooLong, tooMany, reached, movedToFront, makesRoom, closed, stopped, searches, hunted, beginsAt, passed, whenReady, behind, soughtAt, onward, led, ledTo, leadDropped, lasts, readIn, readOf}
+use Rattle.reader.specs.Calls.{Left, Place, at, nowhere, unknown, shownIn, placeOf, reportOf, seekOf}
 use Rattle.reader.proofs.Sanity.{and-true, sane-true}
 use Rattle.reader.proofs.ReadLaws.{closed-full, closed-more, room-moves, room-wider, room-none, hunt-goes, filled-told, filled-not, waits, is-ready, behind-ended, behind-next, sought-mark, sought-astray, onward-waits, onward-goes, on-rising, searching-good, led-by, led-on, led-mark, led-refused, lead-over, lead-asks, lead-in, lead-begins, begins-good, passed-good, lent-true, neither, read-repeats, read-goes}
 use Rattle.reader.proofs.CallLaws.{place-shown}
 use Rattle.reader.proofs.Kept.{isSearching, Behind, begun-behind, filled-bytes, stops, kept-searched, kept-rising}
-use Rattle.runs.specs.Run.{State, Made, Event, read, brought, sought, refused, Run, begun, by-read, by-report, by-seek, by-refused-report, by-refused-seek}
-use Rattle.runs.specs.Position.{lastGiven, named, positionAfter, Positions}
-use Rattle.runs.proofs.Tells.{Tells}
+use Rattle.runs.specs.Run.{State, state, Made, reading, setting, afterSet, Event, read, collected, brought, sought, refused, Run, begun, by-read, by-set, by-report, by-seek, by-refused-report, by-refused-seek}
+use Rattle.runs.specs.Position.{lastGiven, named, placeDue, nextRecord, bySet, positionAfter, Positions}
+use Rattle.runs.specs.Demand.{origin, answers, dueFrom}
+use Rattle.meaning.specs.Due as meant
+use Rattle.meaning.specs.OnePass.{Mark}
+use Rattle.meaning.proofs.Due.{saidOf}
+use Rattle.reader.specs.Look.{putBackOf}
+use Rattle.reader.proofs.LookLaws.{put-current}
+use Rattle.set.specs.declared.state.Set.{Set}
+use Rattle.set.specs.Set.{sound}
+use Rattle.set.specs.Read as set
+use Rattle.set.specs.Read.{Gathered, Called, fits, put, gather, pairs, refused12, filledWith, collectedIn, afterRead}
+use Rattle.runs.proofs.Step.{still-tells}
+use Rattle.runs.proofs.Gather.{Given}
+use Rattle.runs.proofs.SetCall.{unsound, short, reads, first, begun as begun-set, going, same-fill, few}
+use Rattle.runs.proofs.SetPlace.{Ends, back-ahead, gather-ends, First, first-searched}
+use Rattle.runs.proofs.Demand.{nth-after}
+use Rattle.runs.proofs.Tells.{Tells, dueIn, dueTo}
 use Rattle.runs.proofs.Calls.{filledBy, taken, seeks, report-refused, seek-refused}
 use Rattle.runs.proofs.Reached.{Reached, runs-on, reached-made, made-is}
+
+abbrev isAt : Place → Bool
+isAt (at l b) = true
+isAt nowhere = false
+isAt (unknown n) = false
 
 -- the phases in which a read may say the end
 abbrev mayEnd : Phase → Bool
@@ -71,6 +91,10 @@ record Shows (p : Phase) (now last : Place) (r : Reader) : Type 0 where
   last-given : mayEnd p ≡ true → shownIn p r ≡ last
   inside : Inside p r
   asking-none : r .fill .asking ≡ true → shownIn p r ≡ nowhere
+
+-- a place is not none
+at-nowhere : {l b : ℕ} → at l b ≡ nowhere → ⊥
+at-nowhere e = false≢true (sym (ap isAt e))
 
 -- by a read's answer
 abbrev placeRead : Said → (last : Place) → Place
@@ -297,7 +321,7 @@ module _ (X : List ℕ) (C : ℕ) (now last : Place) (r : Reader) (w e : List �
   -- a reader at rest says the same again
   rests : (p : Phase) (s : Said) → r .phase ≡ p → Shows p now last r → shownIn p r ≡ placeRead s last → lastRead s last ≡ last → After last (does s r w e)
   rests p s is k′ shown same =
-      in-phase r p is (record { shown = shown; last-given = λ q. k′ .last q ∙ sym same; inside = k′ .inside; asking-none = k′ .asking-none })
+      in-phase r p is (record { shown = shown; last-given = λ q. k′ .last-given q ∙ sym same; inside = k′ .inside; asking-none = k′ .asking-none })
 
   by-phase : (p : Phase) → r .phase ≡ p → Shows p now last r → (lasts p ≡ false → r .fill .asking ≡ false) → After last (readIn p r w e)
   by-phase phase.Lead is k′ quiet =
@@ -307,9 +331,9 @@ module _ (X : List ℕ) (C : ℕ) (now last : Place) (r : Reader) (w e : List �
   by-phase phase.Current is k′ quiet = by-behind last r w e g (quiet refl) (k′ .last-given refl) (k′ .inside)
   by-phase phase.Ended is k′ quiet = rests phase.Ended ends is k′ (k′ .last-given refl) refl
   by-phase phase.Over is k′ quiet = rests phase.Over ends is k′ (k′ .last-given refl) refl
-  by-phase phase.Window is k′ quiet = rests phase.Window _ is k′ refl refl
-  by-phase phase.Table is k′ quiet = rests phase.Table _ is k′ refl refl
-  by-phase phase.Astray is k′ quiet = rests phase.Astray _ is k′ refl refl
+  by-phase phase.Window is k′ quiet = rests phase.Window (refuses 3 (placed r)) is k′ refl refl
+  by-phase phase.Table is k′ quiet = rests phase.Table (refuses 4 (placed r)) is k′ refl refl
+  by-phase phase.Astray is k′ quiet = rests phase.Astray (refuses 5 []) is k′ refl refl
   by-phase phase.Ahead is k′ quiet = by-onward (ap isSearching is) (quiet refl) (k′ .inside)
 
   after-read : After last (readOf r w e)
@@ -390,72 +414,190 @@ module _ (X : List ℕ) (C : ℕ) (now last : Place) (r : Reader) (w e : List �
       subst (λ (o : Reader). Shows (o .phase) now last o) (sym is)
       (record { shown = k .shown; last-given = k .last-given; inside = k .inside; asking-none = k .asking-none })
 
+-- a set call
+module _ (X : List ℕ) (C T : ℕ) (h : List Event) (s : State) (kR : Reached X C T h s)
+    (k : Shows (s .reader .phase) (positionAfter X C T h) (lastGiven h) (s .reader)) (t : Set) (B M E : List ℕ)
+    (kR′ : Reached X C T (collected (ltb (length B) (length (s .window))) (setting t B M E s .said) ∷ h) (afterSet t B M E s)) where
+  abbrev r : Reader
+  r = s .reader
+
+  abbrev w : List ℕ
+  w = s .window
+
+  abbrev e : List ℕ
+  e = s .table
+
+  abbrev tests : Bool
+  tests = ltb (length B) (length w)
+
+  abbrev d : Did
+  d = readOf r w e
+
+  abbrev Set-after : (short : Bool) → Called → Type 0
+  Set-after short o =
+      Shows (o .reader .phase) (positionAfter X C T (collected short (o .said) ∷ h)) (lastGiven (collected short (o .said) ∷ h)) (o .reader)
+
+  read-after : After (lastGiven h) d
+  read-after = after-read X C (positionAfter X C T h) (lastGiven h) r w e (kR .tells) k
+
+  -- the first of what is due names the place due
+  due-place : {h′ : List Event} {s′ : State} → Reached X C T h′ s′ → {p : Place} → First X (dueTo X C (s′ .reader) (s′ .table)) p → nextRecord X C T h′ ≡ p
+  due-place {h′} {s′} kR″ {p} f =
+      ap placeDue
+      (nth-after (answers h′) (dueFrom X C T (origin h′)) (saidOf X (f .said)) (map (saidOf X) (f .rest)) (sym (kR″ .due-is) ∙ ap (map (saidOf X)) (f .are)))
+      ∙ f .place-is
+
+  -- the next record was gave
+  module _ (l b : ℕ) (is : d .said ≡ gives l b) (long : tests ≡ false) where
+    abbrev gave : Given X C l b (dueTo X C r e) (d .reader) (d .table)
+    gave = first X C r w e (kR .tells) t B M E l b is
+
+    now-current : d .reader .phase ≡ phase.Current
+    now-current = gave .holds .is-current
+
+    shows-current : Shows phase.Current (at l b) (at l b) (d .reader)
+    shows-current =
+        subst (λ (p : Phase). Shows p (at l b) (at l b) (d .reader)) now-current
+        (subst (λ (a : Said). Shows (d .reader .phase) (placeRead a (lastGiven h)) (lastRead a (lastGiven h)) (d .reader)) is read-after)
+
+    -- no ask is open
+    quiet : {A : Type 0} → d .reader .fill .asking ≡ true → A
+    quiet q = absurd (at-nowhere (shows-current .asking-none q))
+
+    tells-now : Tells X C (d .reader) (d .window) (d .table)
+    tells-now = still-tells X C r w e (kR .tells)
+
+    not-fitting : Set-after tests (refused12 t B M E (putBackOf (d .reader)) (d .window) (d .table))
+    unfolding positionAfter lastGiven
+    not-fitting =
+        let x = d .reader in
+        let same = put-current x (sane-true x (tells-now .is-good .is-sane)) (ap isCurrent now-current) in
+        let m = gave .mark in
+        let next : nextRecord X C T h ≡ at (x .mark .line) (byteOf x) =
+        due-place kR (record { said = meant.gives m; rest = dueTo X C x (d .table); are = gave .due-is; place-is = λ i. at (gave .holds .line-is i) (gave .holds .byte-is i) }) in
+        subst (λ (o : Reader). Shows (o .phase) (bySet X C T tests 12 [] (nextRecord X C T h) (positionAfter X C T h)) (lastGiven h) o) (sym same)
+        (record {
+          shown = sym (ap (λ (u : Bool). bySet X C T u 12 [] (nextRecord X C T h) (positionAfter X C T h)) long ∙ next);
+          last-given = λ q. absurd (false≢true q);
+          inside = subst (λ (o : Reader). o .mark .start .0 < o .fill .filled) same (back-ahead x (d .window) (d .table) (tells-now .is-good) now-current .1);
+          asking-none = λ q. quiet q;
+        })
+
+    -- the set is filled
+    module _ (room : ℕ) (left : pairs M ≡ suc room) (fit : fits (begun-set X C r w e (kR .tells) t B M E l b is) ≡ true)
+        (c-is : setting t B M E s ≡ filledWith t B M E d (gather room (d .window) (put (begun-set X C r w e (kR .tells) t B M E l b is)))) where
+      abbrev all : Gathered
+      all = gather room (d .window) (put (begun-set X C r w e (kR .tells) t B M E l b is))
+
+      then-reached : Reached X C T (collected tests (set.holds (all .count) (d .reader .fill .filled)) ∷ h) (state (all .reader) (d .window) (all .table))
+      then-reached = subst (λ (o : Called). Reached X C T (collected tests (o .said) ∷ h) (state (o .reader) (o .window) (o .table))) c-is kR′
+
+      quiet′ : {A : Type 0} → all .reader .fill .asking ≡ true → A
+      quiet′ q = quiet (sym (ap (λ (x : Fill). x .asking) (same-fill X C r w e (kR .tells) t B M E l b is room left fit)) ∙ q)
+
+      by-ends : Ends (all .reader) → Set-after tests (filledWith t B M E d all)
+      unfolding positionAfter lastGiven
+      by-ends (inl (ahead, here)) =
+          let f = first-searched X C (all .reader) (d .window) (all .table) (then-reached .tells) here in
+          let due : First X (dueTo X C (all .reader) (all .table)) (at (all .reader .mark .line) (byteOf (all .reader))) =
+          record { said = f .said; rest = f .rest; are = ap (λ (p : Phase). dueIn p X C (all .reader) (all .table)) ahead ∙ f .are; place-is = f .place-is } in
+          in-phase (all .reader) phase.Ahead ahead
+          (record { shown = sym (due-place then-reached due); last-given = λ q. absurd (false≢true q); inside = here; asking-none = λ q. quiet′ q })
+      by-ends (inr over′) =
+          let due : First X (dueTo X C (all .reader) (all .table)) nowhere =
+          record { said = meant.ends; rest = []; are = ap (λ (p : Phase). dueIn p X C (all .reader) (all .table)) over′; place-is = refl } in
+          in-phase (all .reader) phase.Over over′
+          (record { shown = sym (due-place then-reached due); last-given = λ q. refl; inside = tt; asking-none = λ q. refl })
+
+      is-filled : Set-after tests (filledWith t B M E d all)
+      is-filled =
+          by-ends
+          (gather-ends X C (d .window) (d .reader .fill) (d .reader .slots) (d .reader .mark .line) (dueTo X C r e) room
+          (put (begun-set X C r w e (kR .tells) t B M E l b is)) _ (going X C r w e (kR .tells) t B M E l b is room left fit)
+          (shows-current .inside))
+
+    collects : (room : ℕ) → pairs M ≡ room → setting t B M E s ≡ collectedIn t B M E room d → Set-after tests (collectedIn t B M E room d)
+    collects zero left c-is = not-fitting
+    collects (suc room) left c-is = go (fits (begun-set X C r w e (kR .tells) t B M E l b is)) refl
+      where
+        go : (u : Bool) → fits (begun-set X C r w e (kR .tells) t B M E l b is) ≡ u → Set-after tests (collectedIn t B M E (suc room) d)
+        go true u =
+            let picks = ap (λ (v : Bool). cond v (filledWith t B M E d (gather room (d .window) (put (begun-set X C r w e (kR .tells) t B M E l b is)))) (refused12 t B M E (putBackOf (d .reader)) (d .window) (d .table))) u in
+            subst (Set-after tests) (sym picks) (is-filled room left u (c-is ∙ picks))
+        go false u =
+            let picks = ap (λ (v : Bool). cond v (filledWith t B M E d (gather room (d .window) (put (begun-set X C r w e (kR .tells) t B M E l b is)))) (refused12 t B M E (putBackOf (d .reader)) (d .window) (d .table))) u in
+            subst (Set-after tests) (sym picks) not-fitting
+
+  by-read-said : (a : Said) → d .said ≡ a → tests ≡ false → setting t B M E s ≡ afterRead t B M E a d → Set-after tests (afterRead t B M E a d)
+  unfolding positionAfter lastGiven
+  by-read-said (asks p m o) is long c-is = subst (λ (a : Said). Shows (d .reader .phase) (placeRead a (lastGiven h)) (lastRead a (lastGiven h)) (d .reader)) is read-after
+  by-read-said (gives l b) is long c-is = collects l b is long (pairs M) refl c-is
+  by-read-said ends is long c-is = subst (λ (a : Said). Shows (d .reader .phase) (placeRead a (lastGiven h)) (lastRead a (lastGiven h)) (d .reader)) is read-after
+  by-read-said (refuses n vs) is long c-is =
+      let small = few X C r w e (kR .tells) t B M E n vs is in
+      rw (ne-eqb n 11 (λ q. omega arith), ne-eqb n 12 (λ q. omega arith))
+      (subst (λ (a : Said). Shows (d .reader .phase) (placeRead a (lastGiven h)) (lastRead a (lastGiven h)) (d .reader)) is read-after)
+
+  after-set : Set-after tests (setting t B M E s)
+  unfolding positionAfter lastGiven
+  after-set = go (sound t (length B) (length M)) refl tests refl
+    where
+      go : (u : Bool) → sound t (length B) (length M) ≡ u → (v : Bool) → tests ≡ v → Set-after tests (setting t B M E s)
+      go false u v x = subst (Set-after tests) (sym (unsound X C r w e (kR .tells) t B M E u)) k
+      go true u true x = subst (Set-after tests) (sym (short X C r w e (kR .tells) t B M E u x)) (rw x k)
+      go true u false x =
+          let c-is = reads X C r w e (kR .tells) t B M E u x in
+          subst (Set-after tests) (sym c-is) (by-read-said (d .said) refl x c-is)
+
 module _ (X : List ℕ) (capacity : ℕ) (policy : Policy) (start : State) (is : Made capacity policy start) where
   abbrev C : ℕ
   C = largest policy (length (start .window)) capacity
 
-  reached-by : (h : List Event) (s : State) → Run X start h s → Reached X C (length (start .table)) h s
-  reached-by h s q = runs-on X C (length (start .table)) start (reached-made X capacity policy start is) h s q
+  abbrev T : ℕ
+  T = length (start .table)
 
-  shows-made : Shows (start .reader .phase) [] (start .reader)
+  reached-by : (h : List Event) (s : State) → Run X start h s → Reached X C T h s
+  reached-by h s q = runs-on X C T start (reached-made X capacity policy start is) h s q
+
+  abbrev ShowsAfter : List Event → State → Type 0
+  ShowsAfter h s = Shows (s .reader .phase) (positionAfter X C T h) (lastGiven h) (s .reader)
+
+  shows-made : ShowsAfter [] start
   unfolding positionAfter lastGiven
   shows-made =
-      subst (λ (r : Reader). Shows (r .phase) [] r) (made-is capacity policy (length (start .window)) (length (start .table)) (start .reader) is)
-      (record { shown = refl; last = λ q. refl; inside = tt; asking-none = λ q. refl })
+      subst (λ (r : Reader). Shows (r .phase) nowhere nowhere r) (made-is capacity policy (length (start .window)) (length (start .table)) (start .reader) is)
+      (record { shown = refl; last-given = λ q. refl; inside = tt; asking-none = λ q. refl })
 
-  shows-on : (h : List Event) (s : State) → Run X start h s → Shows (s .reader .phase) h (s .reader)
+  -- a read, by its answer
+  shows-read : (a : Said) (h : List Event) (r : Reader) → Shows (r .phase) (placeRead a (lastGiven h)) (lastRead a (lastGiven h)) r → Shows (r .phase) (positionAfter X C T (read a ∷ h)) (lastGiven (read a ∷ h)) r
+  unfolding positionAfter lastGiven
+  shows-read (asks p m o) h r k = k
+  shows-read (gives l b) h r k = k
+  shows-read ends h r k = k
+  shows-read (refuses n vs) h r k = k
+
+  shows-on : (h : List Event) (s : State) → Run X start h s → ShowsAfter h s
+  unfolding positionAfter lastGiven
   shows-on h s begun = shows-made
   shows-on h s (by-read h₁ s₁ q) =
-      after-read X C h₁ (s₁ .reader) (s₁ .window) (s₁ .table) (reached-by h₁ s₁ q .tells) (shows-on h₁ s₁ q)
+      shows-read (reading s₁ .said) h₁ (reading s₁ .reader)
+      (after-read X C (positionAfter X C T h₁) (lastGiven h₁) (s₁ .reader) (s₁ .window) (s₁ .table) (reached-by h₁ s₁ q .tells) (shows-on h₁ s₁ q))
+  shows-on h s (by-set t B M E h₁ s₁ q) =
+      after-set X C T h₁ s₁ (reached-by h₁ s₁ q) (shows-on h₁ s₁ q) t B M E (reached-by h s (by-set t B M E h₁ s₁ q))
   shows-on h s (by-report n w h₁ s₁ q done b) =
-      after-report X C h₁ (s₁ .reader) (s₁ .window) (s₁ .table) (reached-by h₁ s₁ q .tells) (shows-on h₁ s₁ q) n done
+      after-report X C (positionAfter X C T h₁) (lastGiven h₁) (s₁ .reader) (s₁ .window) (s₁ .table) (reached-by h₁ s₁ q .tells) (shows-on h₁ s₁ q) n done
   shows-on h s (by-seek line byte h₁ s₁ q done) =
-      after-seek X C h₁ (s₁ .reader) (s₁ .window) (s₁ .table) (reached-by h₁ s₁ q .tells) (shows-on h₁ s₁ q) line byte done
+      after-seek X C (positionAfter X C T h₁) (lastGiven h₁) (s₁ .reader) (s₁ .window) (s₁ .table) (reached-by h₁ s₁ q .tells) (shows-on h₁ s₁ q) line byte done
   shows-on h s (by-refused-report n number h₁ s₁ q no′) =
       let t = reached-by h₁ s₁ q .tells in
-      after-refused X C h₁ (s₁ .reader) (s₁ .window) (s₁ .table) t (shows-on h₁ s₁ q) _ number
+      after-refused X C (positionAfter X C T h₁) (lastGiven h₁) (s₁ .reader) (s₁ .window) (s₁ .table) t (shows-on h₁ s₁ q) _
       (report-refused X C (s₁ .reader) (s₁ .window) (s₁ .table) t n number no′)
   shows-on h s (by-refused-seek line byte number h₁ s₁ q no′) =
       let t = reached-by h₁ s₁ q .tells in
-      after-refused X C h₁ (s₁ .reader) (s₁ .window) (s₁ .table) t (shows-on h₁ s₁ q) _ number
+      after-refused X C (positionAfter X C T h₁) (lastGiven h₁) (s₁ .reader) (s₁ .window) (s₁ .table) t (shows-on h₁ s₁ q) _
       (seek-refused X C (s₁ .reader) (s₁ .window) (s₁ .table) t line byte number no′)
 
 pub positions : Positions
 positions X capacity policy start is h s q =
     let sane′ = sane-true (s .reader) (reached-by X capacity policy start is h s q .tells .is-good .is-sane) in
     place-shown (s .reader) sane′ (s .reader .phase) refl ∙ shows-on X capacity policy start is h s q .shown
-
--- no read among these calls answered but by an ask
-unfoldable pub unanswered : List Event → Bool
-unanswered [] = true
-unanswered (read (asks p m o) ∷ h) = unanswered h
-unanswered (read (gives l b) ∷ h) = false
-unanswered (read ends ∷ h) = false
-unanswered (read (refuses n vs) ∷ h) = false
-unanswered (brought n ∷ h) = unanswered h
-unanswered (sought l b ∷ h) = unanswered h
-unanswered (refused n ∷ h) = unanswered h
-
-stays-nowhere : (later h : List Event) → unanswered later ≡ true → positionAfter h ≡ nowhere → positionAfter (later ++ h) ≡ nowhere
-unfolding unanswered positionAfter
-stays-nowhere [] h u is = is
-stays-nowhere (read (asks p m o) ∷ later) h u is = refl
-stays-nowhere (read (gives l b) ∷ later) h u is = absurd (false≢true u)
-stays-nowhere (read ends ∷ later) h u is = absurd (false≢true u)
-stays-nowhere (read (refuses n vs) ∷ later) h u is = absurd (false≢true u)
-stays-nowhere (brought n ∷ later) h u is = stays-nowhere later h u is
-stays-nowhere (sought l b ∷ later) h u is = refl
-stays-nowhere (refused n ∷ later) h u is = stays-nowhere later h u is
-
--- after a seek, and from an ask on, `position` gives none until a read answers otherwise
-module _
-    (X : List ℕ) (capacity : ℕ) (policy : Policy) (start : State) (is : Made capacity policy start) (later h : List Event)
-    (u : unanswered later ≡ true) (s : State)
-  where
-    pub none-after-seek : (line byte : ℕ) → Run X start (later ++ (sought line byte ∷ h)) s → placeOf (s .reader) ≡ nowhere
-    unfolding positionAfter
-    none-after-seek line byte q = positions X capacity policy start is _ s q ∙ stays-nowhere later (sought line byte ∷ h) u refl
-
-    pub none-from-ask : (place room offset : ℕ) → Run X start (later ++ (read (asks place room offset) ∷ h)) s → placeOf (s .reader) ≡ nowhere
-    unfolding positionAfter
-    none-from-ask place room offset q = positions X capacity policy start is _ s q ∙ stays-nowhere later (read (asks place room offset) ∷ h) u refl

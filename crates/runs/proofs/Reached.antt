@@ -202,7 +202,7 @@ module _ (X : List ℕ) (C T : ℕ) where
     then-at = afterSet t B M E s
 
     call : Sets X C (s .reader) (dueTo X C (s .reader) (s .table)) called
-    call = sets X C (s .reader) (s .window) (s .table) (k .tells) (k .fresh) t B M E
+    call = sets X C (s .reader) (s .window) (s .table) (k .tells) t B M E (k .fresh)
 
     abbrev L : List (meant.Said Rec)
     L = dueFrom X C T (origin h)

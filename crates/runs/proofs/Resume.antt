@@ -2,13 +2,13 @@
 -- input has the same records again. Assumes nothing.
 use Prim.Native.Nat.{ℕ, zero, suc, _+_, _≤_}
 use native.Mathlib.Omega.{arith}
-use mathlib.Core.Bool.{Bool, true, false, cond, _||_, false≢true}
+use mathlib.Core.Bool.{Bool, true, false, cond, _&&_, _||_, false≢true}
 use mathlib.Core.List.{List, [], _∷_, _++_}
 use mathlib.Core.Option.{Option, none, some}
 use mathlib.Core.Path.{_≡_, refl, sym, ap, subst, _∙_}
 use lib.ListN.{length, getD, drop}
 use lib.Seq.{drop-cons}
-use lib.Dec.{eqb}
+use lib.Dec.{eqb, ltb}
 use borrow.Author.Tests.{ne-eqb, le-ltb}
 use Rattle.growth.specs.declared.Policy.{Policy}
 use Rattle.growth.specs.Chain.{largest}
@@ -26,9 +26,11 @@ use Rattle.reader.specs.Read.{Said, asks, gives, ends, refuses}
 use Rattle.reader.specs.Calls.{Place, at, nowhere, unknown, Left, misplaced, shownIn, placeOf, seekOf}
 use Rattle.reader.proofs.Sanity.{sane-true, sane-byte}
 use Rattle.reader.proofs.CallLaws.{place-shown, seek-in, seek-out}
-use Rattle.runs.specs.Run.{State, Made, reading, afterRead, Event, read, Run, begun, by-read, by-report, by-seek, by-refused-report, by-refused-seek}
+use Rattle.runs.specs.Run.{State, Made, reading, afterRead, setting, Event, read, collected, Run, begun, by-read, by-set, by-report, by-seek, by-refused-report, by-refused-seek}
 use Rattle.runs.specs.Demand.{Origin, front, place, origin, answers, dueFrom, nth, Hears}
-use Rattle.runs.specs.Position.{lastGiven, named, positionAfter}
+use Rattle.runs.specs.Position.{lastGiven, named, placeDue, nextRecord, positionAfter}
+use Rattle.set.specs.Read as set
+use Rattle.runs.proofs.SetCall.{refused-read}
 use Rattle.runs.specs.Resume.{recs, recordsOf, Reported, Resumes}
 use Rattle.runs.proofs.Calls.{seeks}
 use Rattle.runs.proofs.Reached.{Reached, runs-on, reached-made}
@@ -155,7 +157,7 @@ Bound (place l b) = (1 ≤ l) × (l ≤ suc b)
 module _ (X : List ℕ) (C T : ℕ) (start : State) (made : Reached X C T [] start) where
   record Heard (h : List Event) : Type 0 where
     last-given : (l b : ℕ) → lastGiven h ≡ at l b → Among (recordsOf X (origin h)) l b
-    position : (l b : ℕ) → positionAfter h ≡ at l b → Among (recordsOf X (origin h)) l b
+    position : (l b : ℕ) → positionAfter X C T h ≡ at l b → Among (recordsOf X (origin h)) l b
 
   nothing-at : {A : Type 0} {l b : ℕ} → nowhere ≡ at l b → A
   nothing-at e = absurd (false≢true (ap isAt e))
@@ -186,10 +188,44 @@ module _ (X : List ℕ) (C T : ℕ) (start : State) (made : Reached X C T [] sta
                 (subst (λ (a : meant.Said Rec). Names a l b) (sym is) ((λ i. named (sym (q .0) i) (sym (q .1) i)) ∙ e));
           }
 
+  -- a set call: where it shows the next record, that is one of the reading
+  names-next : (h : List Event) (l b : ℕ) → nextRecord X C T h ≡ at l b → Among (recordsOf X (origin h)) l b
+  names-next h l b is = names-from C T X (origin h) (answers h) l b (go (nth (answers h) (dueFrom X C T (origin h))) is)
+    where
+      go : (a : meant.Said Rec) → placeDue a ≡ at l b → Names a l b
+      go (meant.gives r) e = (ap lineAt e, ap byteAt e)
+      go meant.ends e = absurd (false≢true (ap isAt e))
+      go (meant.refuses n vs) e = e
+
+  heard-set : (short : Bool) (a : set.Said) (h : List Event) → Heard h
+      → ((n : ℕ) (vs : List ℕ) → a ≡ set.refuses n vs → eqb n 11 ≡ false → eqb n 12 ≡ false → (l b : ℕ) → named n vs ≡ at l b → Among (recordsOf X (origin h)) l b)
+      → Heard (collected short a ∷ h)
+  unfolding lastGiven positionAfter origin answers
+  heard-set short (set.asks p m o) h before own = record { last-given = before .last-given; position = λ l b e. nothing-at e }
+  heard-set short (set.holds k filled) h before own =
+      record { last-given = λ l b e. nothing-at e; position = λ l b e. names-next (collected short (set.holds k filled) ∷ h) l b e }
+  heard-set short set.ends h before own = record { last-given = before .last-given; position = before .last-given }
+  heard-set short (set.refuses n vs) h before own =
+      record { last-given = before .last-given; position = λ l b e. go (eqb n 11) refl (eqb n 12) refl short l b e }
+    where
+      go : (u : Bool) → eqb n 11 ≡ u → (v : Bool) → eqb n 12 ≡ v → (x : Bool) (l b : ℕ)
+          → cond (u || (v && x)) (positionAfter X C T h) (cond v (nextRecord X C T h) (named n vs)) ≡ at l b → Among (recordsOf X (origin h)) l b
+      go true u v x s l b e = before .position l b e
+      go false u true x true l b e = before .position l b e
+      go false u true x false l b e = names-next h l b e
+      go false u false x s l b e = own n vs refl u x l b e
+
   heard-run : (h : List Event) (s : State) → Run X start h s → Heard h
   unfolding lastGiven positionAfter origin
   heard-run h s begun = record { last-given = λ l b e. nothing-at e; position = λ l b e. nothing-at e }
   heard-run h s (by-read h₁ s₁ q) = heard-read h₁ s₁ (runs-on X C T start made h₁ s₁ q) (heard-run h₁ s₁ q)
+  heard-run h s (by-set t B M E h₁ s₁ q) =
+      let k = runs-on X C T start made h₁ s₁ q in
+      let before = heard-run h₁ s₁ q in
+      heard-set (ltb (length B) (length (s₁ .window))) (setting t B M E s₁ .said) h₁ before
+      (λ n vs is other more l b e.
+      let said = refused-read X C (s₁ .reader) (s₁ .window) (s₁ .table) (k .tells) t B M E n vs is other more in
+      subst (λ (a : Said). Heard (read a ∷ h₁)) said (heard-read h₁ s₁ k before) .position l b e)
   heard-run h s (by-report n w h₁ s₁ q is b) =
       let before = heard-run h₁ s₁ q in record { last-given = before .last-given; position = before .position }
   heard-run h s (by-seek line byte h₁ s₁ q is) = record { last-given = λ l b e. nothing-at e; position = λ l b e. nothing-at e }
@@ -202,6 +238,7 @@ module _ (X : List ℕ) (C T : ℕ) (start : State) (made : Reached X C T [] sta
   unfolding origin
   bounded h s begun = tt
   bounded h s (by-read h₁ s₁ q) = bounded h₁ s₁ q
+  bounded h s (by-set t B M E h₁ s₁ q) = bounded h₁ s₁ q
   bounded h s (by-report n w h₁ s₁ q is b) = bounded h₁ s₁ q
   bounded h s (by-seek line byte h₁ s₁ q is) =
       let f = seeks X C (s₁ .reader) (s₁ .window) (s₁ .table) (runs-on X C T start made h₁ s₁ q .tells) line byte is .1 in (

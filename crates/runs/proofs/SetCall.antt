@@ -9,7 +9,7 @@ use mathlib.Core.Option.{Option, none, some, Option·none-ne-some, Option·some-
 use mathlib.Core.Path.{_≡_, refl, sym, ap, subst, _∙_}
 use lib.ListN.{length, drop}
 use lib.Dec.{eqb, ltb, leb}
-use borrow.Author.Tests.{leb-true}
+use borrow.Author.Tests.{leb-true, eq-eqb}
 use Rattle.meaning.specs.Due as meant
 use Rattle.meaning.specs.Due.{dueBy}
 use Rattle.meaning.specs.OnePass.{Mark, Marked, good, bad, marks, leadMarks, tableMark, judgedMark, placeMark, dueMarks}
@@ -102,6 +102,38 @@ small-first n vs (meant.gives m) rest r e k q = absurd q
 small-first n vs meant.ends rest r e k q = absurd q
 small-first n vs (meant.refuses m us) rest r e k q = omega (arith, k .0, q .0)
 
+-- the parts of what a set call says
+abbrev isRefusal : set.Said → Bool
+isRefusal (set.asks p m o) = false
+isRefusal (set.holds k filled) = false
+isRefusal set.ends = false
+isRefusal (set.refuses n vs) = true
+
+abbrev isAsking : set.Said → Bool
+isAsking (set.asks p m o) = true
+isAsking (set.holds k filled) = false
+isAsking set.ends = false
+isAsking (set.refuses n vs) = false
+
+-- an ask as a read's answer
+abbrev asOf : set.Said → Said
+asOf (set.asks p m o) = asks p m o
+asOf (set.holds k filled) = ends
+asOf set.ends = ends
+asOf (set.refuses n vs) = ends
+
+abbrev numberSaid : set.Said → ℕ
+numberSaid (set.asks p m o) = 0
+numberSaid (set.holds k filled) = 0
+numberSaid set.ends = 0
+numberSaid (set.refuses n vs) = n
+
+abbrev valuesSaid : set.Said → List ℕ
+valuesSaid (set.asks p m o) = []
+valuesSaid (set.holds k filled) = []
+valuesSaid set.ends = []
+valuesSaid (set.refuses n vs) = vs
+
 -- ---- what a set call does to what is due
 
 -- the records of a set, by their marks: they were due first, and stand in its tables
@@ -128,7 +160,7 @@ pub record Sets (X : List ℕ) (C : ℕ) (r : Reader) (D : Dues) (c : Called) : 
   pub fresh : Fresh X C (c .reader) (c .table)
   pub goes : SetGoes (c .said) D X C c
 
-module _ (X : List ℕ) (C : ℕ) (r : Reader) (w e : List ℕ) (t : Tells X C r w e) (fresh : Fresh X C r e) (s : Set) (B M E : List ℕ) where
+module _ (X : List ℕ) (C : ℕ) (r : Reader) (w e : List ℕ) (t : Tells X C r w e) (s : Set) (B M E : List ℕ) where
   abbrev D : Dues
   D = dueTo X C r e
 
@@ -137,9 +169,6 @@ module _ (X : List ℕ) (C : ℕ) (r : Reader) (w e : List ℕ) (t : Tells X C r
 
   abbrev c : Called
   c = setOf s B M E r w e
-
-  abbrev Does : Called → Type 0
-  Does = Sets X C r D
 
   step : Step X C r D d
   step = steps X C r w e t
@@ -151,36 +180,21 @@ module _ (X : List ℕ) (C : ℕ) (r : Reader) (w e : List ℕ) (t : Tells X C r
   tested : (sane r && lentAs r (length w) (length e) && sound s (length B) (length M)) ≡ sound s (length B) (length M)
   tested = rw (sane-true r (t .is-good .is-sane), lent-true r w e (t .is-good .window-lent) (t .is-good .table-lent))
 
-  unsound : sound s (length B) (length M) ≡ false → c ≡ leaves s B M E (set.refuses 11 []) r w e s
+  pub unsound : sound s (length B) (length M) ≡ false → c ≡ leaves s B M E (set.refuses 11 []) r w e s
   unfolding setOf
   unsound u = rw (tested ∙ u)
 
-  short : sound s (length B) (length M) ≡ true → ltb (length B) (length w) ≡ true → c ≡ refused12 s B M E r w e
+  pub short : sound s (length B) (length M) ≡ true → ltb (length B) (length w) ≡ true → c ≡ refused12 s B M E r w e
   unfolding setOf
   short u v = rw (tested ∙ u, v)
 
-  reads : sound s (length B) (length M) ≡ true → ltb (length B) (length w) ≡ false → c ≡ afterRead s B M E (d .said) d
+  pub reads : sound s (length B) (length M) ≡ true → ltb (length B) (length w) ≡ false → c ≡ afterRead s B M E (d .said) d
   unfolding setOf
   reads u v = rw (tested ∙ u, v)
 
-  -- nothing changes
-  stays : (a : set.Said) (q : Set) → SetGoes a D X C (leaves s B M E a r w e q) → Does (leaves s B M E a r w e q)
-  stays a q goes = record { tells = t; slots-are = refl; rests = λ k. k; fresh = fresh; goes = goes }
-
-  -- as a read, the set's slices untouched
-  as-read : (a : set.Said) (q : Set) → SetGoes a D X C (leaves s B M E a (d .reader) (d .window) (d .table) q) → Does (leaves s B M E a (d .reader) (d .window) (d .table) q)
-  as-read a q goes =
-      record {
-        tells = tells-then;
-        slots-are = step .same .slots-are;
-        rests = step .rests;
-        fresh = read-backs X C r w e t fresh .fresh;
-        goes = goes;
-      }
-
   -- the next record was found
   module _ (l b : ℕ) (is : d .said ≡ gives l b) where
-    first : Given X C l b D (d .reader) (d .table)
+    pub first : Given X C l b D (d .reader) (d .table)
     first =
         given X C l b D (d .reader) (d .table) (closed-due (r .phase) X C r e)
         (subst (λ (a : Said). Goes a D X C (d .reader) (d .table)) is (step .goes))
@@ -188,20 +202,7 @@ module _ (X : List ℕ) (C : ℕ) (r : Reader) (w e : List ℕ) (t : Tells X C r
     at-phase : d .reader .phase ≡ phase.Current
     at-phase = first .holds .is-current
 
-    -- it does not fit: the next read gives it
-    refused : Does (refused12 s B M E (putBackOf (d .reader)) (d .window) (d .table))
-    refused =
-        let same = put-current (d .reader) (sane-true (d .reader) (tells-then .is-good .is-sane)) (ap isCurrent at-phase) in
-        record {
-          tells = put-back-tells X C (d .reader) (d .window) (d .table) tells-then at-phase;
-          slots-are = ap (λ (o : Reader). o .slots) same ∙ step .same .slots-are;
-          rests =
-              λ k. at-rest (putBackOf (d .reader)) (ap (λ (o : Reader). isWindow (o .phase)) same) (ap (λ (o : Reader). isTable (o .phase)) same);
-          fresh = fresh-put-back X C (d .reader) (d .window) (d .table) tells-then at-phase;
-          goes = inl (inr refl, read-put-back X C r w e t fresh l b is);
-        }
-
-    abbrev begun : Gathered
+    abbrev pub begun : Gathered
     begun = record { reader = d .reader; table = d .table; count = 0; used = 0; marks = M; ends = E }
 
     pairs-room : (ms : List ℕ) → pairs ms + pairs ms ≤ length ms
@@ -210,52 +211,155 @@ module _ (X : List ℕ) (C : ℕ) (r : Reader) (w e : List ℕ) (t : Tells X C r
     pairs-room (x ∷ y ∷ ms) = omega (arith, pairs-room ms)
 
     -- it and those behind it are put into the set
-    filled : (room : ℕ) → pairs M ≡ suc room → fits begun ≡ true → Does (filledWith s B M E d (gather room (d .window) (put begun)))
-    filled room left fit =
-        let D₀ = D in
-        let going : Going X C (d .window) (d .reader .fill) (d .reader .slots) (d .reader .mark .line) D₀ room (put begun) (first .mark ∷ []) =
-        puts X C (d .window) (d .reader .fill) (d .reader .slots) (d .reader .mark .line) D₀ room begun [] (first .mark) (first .holds) tells-then refl refl
-        (let z : d .reader .mark .line ≡ d .reader .mark .line + 0 = omega arith in z) refl refl tt (first .due-is)
-        (omega (arith, pairs-room M, left)) (leb-true (0 + d .reader .mark .count) (length E) fit) in
-        let all = gathers-all X C (d .window) (d .reader .fill) (d .reader .slots) (d .reader .mark .line) D₀ room (put begun) (first .mark ∷ []) going in
-        let g = all .gathers in
+    module _ (room : ℕ) (left : pairs M ≡ suc room) (fit : fits begun ≡ true) where
+      pub going : Going X C (d .window) (d .reader .fill) (d .reader .slots) (d .reader .mark .line) D room (put begun) (first .mark ∷ [])
+      going =
+          puts X C (d .window) (d .reader .fill) (d .reader .slots) (d .reader .mark .line) D room begun [] (first .mark) (first .holds) tells-then refl refl
+          (let z : d .reader .mark .line ≡ d .reader .mark .line + 0 = omega arith in z) refl refl tt (first .due-is)
+          (omega (arith, pairs-room M, left)) (leb-true (0 + d .reader .mark .count) (length E) fit)
+
+      all : All X C (d .window) (d .reader .fill) (d .reader .slots) (d .reader .mark .line) D (first .mark ∷ []) (gather room (d .window) (put begun))
+      all = gathers-all X C (d .window) (d .reader .fill) (d .reader .slots) (d .reader .mark .line) D room (put begun) (first .mark ∷ []) going
+
+      -- in the same window
+      pub same-fill : gather room (d .window) (put begun) .reader .fill ≡ d .reader .fill
+      same-fill = all .gathers .fill-is
+
+  -- a refusal of a read is one of 2 to 5
+  pub few : (n : ℕ) (vs : List ℕ) → d .said ≡ refuses n vs → n ≤ 5
+  few n vs is =
+      let q = subst (λ (a : Said). Goes a D X C (d .reader) (d .table)) is (step .goes) in
+      small-first n vs (q .first) (q .rest) (d .reader) (d .table) (subst Small (q .due-is) (small-due (r .phase) X C r e)) (q .says)
+
+  -- a refusal that is neither of the state nor of the set is the read's own
+  pub refused-read : (n : ℕ) (vs : List ℕ) → c .said ≡ set.refuses n vs → eqb n 11 ≡ false → eqb n 12 ≡ false → d .said ≡ refuses n vs
+  refused-read n vs is other more = go (sound s (length B) (length M)) refl (ltb (length B) (length w)) refl
+    where
+      not-number : {A : Type 0} (m : ℕ) → set.refuses m [] ≡ set.refuses n vs → eqb n m ≡ false → A
+      not-number m e no′ = let z : m ≡ n = ap numberSaid e in absurd (false≢true (sym no′ ∙ eq-eqb n m (sym z)))
+
+      by-said : (a : Said) → d .said ≡ a → afterRead s B M E a d .said ≡ set.refuses n vs → d .said ≡ refuses n vs
+      by-said (asks p m o) q e = absurd (false≢true (ap isRefusal e))
+      by-said ends q e = absurd (false≢true (ap isRefusal e))
+      by-said (refuses m us) q e = q ∙ (λ i. refuses (ap numberSaid e i) (ap valuesSaid e i))
+      by-said (gives l b) q e = collects (pairs M) e
+        where
+          collects : (room : ℕ) → collectedIn s B M E room d .said ≡ set.refuses n vs → d .said ≡ refuses n vs
+          collects zero e′ = not-number 12 e′ more
+          collects (suc room) e′ = fitting (fits (begun l b q)) e′
+            where
+              fitting : (u : Bool) → cond u (filledWith s B M E d (gather room (d .window) (put (begun l b q)))) (refused12 s B M E (putBackOf (d .reader)) (d .window) (d .table)) .said ≡ set.refuses n vs → d .said ≡ refuses n vs
+              fitting true e″ = absurd (false≢true (ap isRefusal e″))
+              fitting false e″ = not-number 12 e″ more
+
+      go : (u : Bool) → sound s (length B) (length M) ≡ u → (v : Bool) → ltb (length B) (length w) ≡ v → d .said ≡ refuses n vs
+      go false u v x = not-number 11 (ap (λ (o : Called). o .said) (sym (unsound u)) ∙ is) other
+      go true u true x = not-number 12 (ap (λ (o : Called). o .said) (sym (short u x)) ∙ is) more
+      go true u false x = by-said (d .said) refl (ap (λ (o : Called). o .said) (sym (reads u x)) ∙ is)
+
+  -- an ask is the read's own
+  pub asked-read : (p m o : ℕ) → c .said ≡ set.asks p m o → (d .said ≡ asks p m o) × (c ≡ leaves s B M E (set.asks p m o) (d .reader) (d .window) (d .table) (emptied s))
+  asked-read p m o is = go (sound s (length B) (length M)) refl (ltb (length B) (length w)) refl
+    where
+      other : (x : Called) → c ≡ x → isAsking (x .said) ≡ false → (d .said ≡ asks p m o) × (c ≡ leaves s B M E (set.asks p m o) (d .reader) (d .window) (d .table) (emptied s))
+      other x e no′ = absurd (false≢true (sym no′ ∙ ap (λ (y : Called). isAsking (y .said)) (sym e) ∙ ap isAsking is))
+
+      collects : (room : ℕ) → isAsking (collectedIn s B M E room d .said) ≡ false
+      collects zero = refl
+      collects (suc room) = fitting (leb (0 + d .reader .mark .count) (length E))
+        where
+          fitting : (u : Bool)
+              → isAsking (cond u (filledWith s B M E d (gather room (d .window) (put (record { reader = d .reader; table = d .table; count = 0; used = 0; marks = M; ends = E })))) (refused12 s B M E (putBackOf (d .reader)) (d .window) (d .table)) .said) ≡ false
+          fitting true = refl
+          fitting false = refl
+
+      by-said : (a : Said) → d .said ≡ a → c ≡ afterRead s B M E a d → (d .said ≡ asks p m o) × (c ≡ leaves s B M E (set.asks p m o) (d .reader) (d .window) (d .table) (emptied s))
+      by-said (asks p′ m′ o′) q e =
+          let same : set.asks p′ m′ o′ ≡ set.asks p m o = ap (λ (x : Called). x .said) (sym e) ∙ is in
+          (q ∙ (λ i. asOf (same i)), e ∙ (λ i. leaves s B M E (same i) (d .reader) (d .window) (d .table) (emptied s)))
+      by-said ends q e = other _ e refl
+      by-said (refuses n vs) q e = other _ e refl
+      by-said (gives l b) q e = other _ e (collects (pairs M))
+
+      go : (u : Bool) → sound s (length B) (length M) ≡ u → (v : Bool) → ltb (length B) (length w) ≡ v → (d .said ≡ asks p m o) × (c ≡ leaves s B M E (set.asks p m o) (d .reader) (d .window) (d .table) (emptied s))
+      go false u v x = other _ (unsound u) refl
+      go true u true x = other _ (short u x) refl
+      go true u false x = by-said (d .said) refl (reads u x)
+
+  -- what a set call does to what is due
+  module _ (fresh : Fresh X C r e) where
+    abbrev Does : Called → Type 0
+    Does = Sets X C r D
+
+    -- nothing changes
+    stays : (a : set.Said) (q : Set) → SetGoes a D X C (leaves s B M E a r w e q) → Does (leaves s B M E a r w e q)
+    stays a q goes = record { tells = t; slots-are = refl; rests = λ k. k; fresh = fresh; goes = goes }
+
+    -- as a read, the set's slices untouched
+    as-read : (a : set.Said) (q : Set) → SetGoes a D X C (leaves s B M E a (d .reader) (d .window) (d .table) q) → Does (leaves s B M E a (d .reader) (d .window) (d .table) q)
+    as-read a q goes =
         record {
-          tells = g .tells;
-          slots-are = g .slots-are ∙ step .same .slots-are;
-          rests = λ k. g .rests;
-          fresh = g .fresh;
-          goes =
-              record {
-                marks-are = first .mark ∷ all .more;
-                used = _;
-                as-many = g .count-is;
-                some-record = omega (arith, g .count-is);
-                due-is = g .due-is;
-                each = g .each;
-                in-table = g .used-fits;
-              };
+          tells = tells-then;
+          slots-are = step .same .slots-are;
+          rests = step .rests;
+          fresh = read-backs X C r w e t fresh .fresh;
+          goes = goes;
         }
 
-    collected : (room : ℕ) → pairs M ≡ room → Does (collectedIn s B M E room d)
-    collected zero left = refused
-    collected (suc room) left = go (fits begun) refl
+    module _ (l b : ℕ) (is : d .said ≡ gives l b) where
+      -- it does not fit: the next read gives it
+      refused : Does (refused12 s B M E (putBackOf (d .reader)) (d .window) (d .table))
+      refused =
+          let same = put-current (d .reader) (sane-true (d .reader) (tells-then .is-good .is-sane)) (ap isCurrent (at-phase l b is)) in
+          record {
+            tells = put-back-tells X C (d .reader) (d .window) (d .table) tells-then (at-phase l b is);
+            slots-are = ap (λ (o : Reader). o .slots) same ∙ step .same .slots-are;
+            rests =
+                λ k. at-rest (putBackOf (d .reader)) (ap (λ (o : Reader). isWindow (o .phase)) same) (ap (λ (o : Reader). isTable (o .phase)) same);
+            fresh = fresh-put-back X C (d .reader) (d .window) (d .table) tells-then (at-phase l b is);
+            goes = inl (inr refl, read-put-back X C r w e t fresh l b is);
+          }
+
+      filled : (room : ℕ) (left : pairs M ≡ suc room) (fit : fits (begun l b is) ≡ true) → Does (filledWith s B M E d (gather room (d .window) (put (begun l b is))))
+      filled room left fit =
+          let k = all l b is room left fit in
+          let g = k .gathers in
+            record {
+              tells = g .tells;
+              slots-are = g .slots-are ∙ step .same .slots-are;
+              rests = λ k. g .rests;
+              fresh = g .fresh;
+              goes =
+                  record {
+                    marks-are = first l b is .mark ∷ k .more;
+                    used = _;
+                    as-many = g .count-is;
+                    some-record = omega (arith, g .count-is);
+                    due-is = g .due-is;
+                    each = g .each;
+                    in-table = g .used-fits;
+                  };
+            }
+
+      collected : (room : ℕ) → pairs M ≡ room → Does (collectedIn s B M E room d)
+      collected zero left = refused
+      collected (suc room) left = go (fits (begun l b is)) refl
+        where
+          go : (u : Bool) → fits (begun l b is) ≡ u → Does (cond u (filledWith s B M E d (gather room (d .window) (put (begun l b is)))) (refused12 s B M E (putBackOf (d .reader)) (d .window) (d .table)))
+          go true u = filled room left u
+          go false u = refused
+
+    after-read : (a : Said) → d .said ≡ a → Goes a D X C (d .reader) (d .table) → Does (afterRead s B M E a d)
+    after-read (asks p m o) is q = as-read (set.asks p m o) (emptied s) (q .0)
+    after-read (gives l b) is q = collected l b is (pairs M) refl
+    after-read ends is q = as-read set.ends (emptied s) (q .then-due)
+    after-read (refuses n vs) is q =
+        as-read (set.refuses n vs) _ (inr (few n vs is, q .then-due))
+
+    pub sets : Does c
+    sets = go (sound s (length B) (length M)) refl (ltb (length B) (length w)) refl
       where
-        go : (u : Bool) → fits begun ≡ u → Does (cond u (filledWith s B M E d (gather room (d .window) (put begun))) (refused12 s B M E (putBackOf (d .reader)) (d .window) (d .table)))
-        go true u = filled room left u
-        go false u = refused
-
-  after-read : (a : Said) → d .said ≡ a → Goes a D X C (d .reader) (d .table) → Does (afterRead s B M E a d)
-  after-read (asks p m o) is q = as-read (set.asks p m o) (emptied s) (q .0)
-  after-read (gives l b) is q = collected l b is (pairs M) refl
-  after-read ends is q = as-read set.ends (emptied s) (q .then-due)
-  after-read (refuses n vs) is q =
-      as-read (set.refuses n vs) _
-      (inr (small-first n vs (q .first) (q .rest) (d .reader) (d .table) (subst Small (q .due-is) (small-due (r .phase) X C r e)) (q .says), q .then-due))
-
-  pub sets : Does c
-  sets = go (sound s (length B) (length M)) refl (ltb (length B) (length w)) refl
-    where
-      go : (u : Bool) → sound s (length B) (length M) ≡ u → (v : Bool) → ltb (length B) (length w) ≡ v → Does c
-      go false u v x = subst Does (sym (unsound u)) (stays (set.refuses 11 []) s (inl (inl refl, refl)))
-      go true u true x = subst Does (sym (short u x)) (stays (set.refuses 12 []) (emptied s) (inl (inr refl, refl)))
-      go true u false x = subst Does (sym (reads u x)) (after-read (d .said) refl (step .goes))
+        go : (u : Bool) → sound s (length B) (length M) ≡ u → (v : Bool) → ltb (length B) (length w) ≡ v → Does c
+        go false u v x = subst Does (sym (unsound u)) (stays (set.refuses 11 []) s (inl (inl refl, refl)))
+        go true u true x = subst Does (sym (short u x)) (stays (set.refuses 12 []) (emptied s) (inl (inr refl, refl)))
+        go true u false x = subst Does (sym (reads u x)) (after-read (d .said) refl (step .goes))

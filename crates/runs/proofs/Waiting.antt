@@ -12,8 +12,13 @@ use Rattle.reader.specs.Read.{Said, asks, gives, ends, refuses}
 use Rattle.reader.specs.State.{withFill}
 use Rattle.window.specs.Fill.{took}
 use Rattle.reader.specs.Calls.{Left, reportOf}
-use Rattle.runs.specs.Run.{State, state, reading, afterRead, offset, Brings, Event, read, brought, refused, Run, begun, by-read, by-report, by-seek, by-refused-report, by-refused-seek}
+use Rattle.runs.specs.Run.{State, state, reading, afterRead, offset, Brings, setting, afterSet, Event, read, collected, brought, refused, Run, begun, by-read, by-set, by-report, by-seek, by-refused-report, by-refused-seek}
 use Rattle.runs.specs.Standing.{OnlyAsks}
+use Rattle.set.specs.declared.state.Set.{Set}
+use Rattle.set.specs.Read as set
+use Rattle.set.specs.Read.{Called}
+use Rattle.runs.proofs.SetCall.{asked-read}
+use lib.Dec.{ltb}
 use Rattle.runs.specs.Progress.{reports, left, isAsk}
 use Rattle.runs.proofs.Tells.{Dues, Tells, dueTo, Goes, Step}
 use Rattle.runs.proofs.Calls.{filledBy, Took, taken, tells-report, due-report, report-refused, seek-refused}
@@ -85,6 +90,12 @@ only-asks (gives l b) h k = absurd k
 only-asks ends h k = absurd k
 only-asks (refuses n vs) h k = absurd k
 
+only-asks-set : (short : Bool) (a : set.Said) (h : List Event) → OnlyAsks (collected short a ∷ h) → OnlyAsks h
+only-asks-set short (set.asks p m o) h k = k
+only-asks-set short (set.holds n filled) h k = absurd k
+only-asks-set short set.ends h k = absurd k
+only-asks-set short (set.refuses n vs) h k = absurd k
+
 -- an ask leaves what is due
 asks-same : (a : Said) (d : Dues) (X : List ℕ) (C : ℕ) (r : Reader) (e : List ℕ) → isAsk a ≡ true → Goes a d X C r e → dueTo X C r e ≡ d
 asks-same (asks p m o) d X C r e is q = q .0
@@ -107,6 +118,22 @@ module _ (X : List ℕ) (C : ℕ) (s : State) (k : Tells X C (s .reader) (s .win
             asks-same (reading t .said) _ X C (reading t .reader) (reading t .table) is (here X C t (before .tells) .goes) ∙ before .due-is;
         fewer = omega (arith, before .fewer, chances-read X C t (before .tells));
       }
+
+  -- a set call that asks is a read that asks
+  waits-set : (q : Set) (B M E : List ℕ) (short : Bool) (g : List Event) (t : State) → OnlyAsks (collected short (setting q B M E t .said) ∷ g) → Waited X C s g t
+      → Waited X C s (collected short (setting q B M E t .said) ∷ g) (afterSet q B M E t)
+  unfolding reports
+  waits-set q B M E short g t o before = go (setting q B M E t .said) refl o
+    where
+      go : (a : set.Said) → setting q B M E t .said ≡ a → OnlyAsks (collected short a ∷ g) → Waited X C s (collected short (setting q B M E t .said) ∷ g) (afterSet q B M E t)
+      go (set.asks p m o′) is k′ =
+          let own = asked-read X C (t .reader) (t .window) (t .table) (before .tells) q B M E p m o′ is in
+          let read′ = waits-read g t (ap isAsk (own .0)) before in
+          subst (λ (x : Called). Waited X C s (collected short (setting q B M E t .said) ∷ g) (state (x .reader) (x .window) (x .table))) (sym (own .1))
+          (record { tells = read′ .tells; due-is = read′ .due-is; fewer = read′ .fewer })
+      go (set.holds n filled) is k′ = absurd k′
+      go set.ends is k′ = absurd k′
+      go (set.refuses n vs) is k′ = absurd k′
 
   waits-report :
       (n : ℕ) (w : List ℕ) (g : List Event) (t : State) → reportOf n (t .reader) .refusal ≡ none → Brings X n t w → Waited X C s g t →
@@ -134,6 +161,8 @@ module _ (X : List ℕ) (C : ℕ) (s : State) (k : Tells X C (s .reader) (s .win
   waits g t (by-read g₁ t₁ q) o =
       let u = only-asks (reading t₁ .said) g₁ o in
       waits-read g₁ t₁ (u .1) (waits g₁ t₁ q (u .0))
+  waits g t (by-set v B M E g₁ t₁ q) o =
+      waits-set v B M E (ltb (length B) (length (t₁ .window))) g₁ t₁ o (waits g₁ t₁ q (only-asks-set (ltb (length B) (length (t₁ .window))) (setting v B M E t₁ .said) g₁ o))
   waits g t (by-report n w g₁ t₁ q is b) o = waits-report n w g₁ t₁ is b (waits g₁ t₁ q o)
   waits g t (by-seek l b g₁ t₁ q is) o = absurd o
   waits g t (by-refused-report n number g₁ t₁ q is) o =
