@@ -125,7 +125,7 @@ module _ (X : List ℕ) (C : ℕ) (r : Reader) (w e : List ℕ) (t : Tells X C r
         told = told-with m p;
         largest-is = t .largest-is;
         sought-inside = λ is. absurd (false≢true (sym no′ ∙ is));
-        same = record { reaches = refl; end-told = refl; slots-are = refl };
+        same = record { reaches = refl; end-told = refl; slots-are = refl; lent-is = refl };
         rests = λ k. rests;
         settled = settled;
       }
@@ -165,7 +165,7 @@ module _ (X : List ℕ) (C : ℕ) (r : Reader) (w e : List ℕ) (t : Tells X C r
           told = s .told;
           largest-is = s .largest-is;
           sought-inside = s .sought-inside;
-          same = record { reaches = s .same .reaches; end-told = s .same .end-told; slots-are = s .same .slots-are };
+          same = record { reaches = s .same .reaches; end-told = s .same .end-told; slots-are = s .same .slots-are; lent-is = s .same .lent-is };
           rests = λ k. s .rests (at-rest (beginsAt start line r) refl refl);
           settled = s .settled;
         })

@@ -182,6 +182,15 @@ pub closed-then : (ms : List Mark) (d : Dues) → Closed d → Closed (recordsTh
 closed-then [] d c = c
 closed-then (m ∷ ms) d c = closed-more (meant.gives m) (recordsThen ms d) (closed-then ms d c)
 
+-- each record lies below a place of the input
+abbrev pub AllBelow : (top : ℕ) → List Mark → Type 0
+AllBelow top [] = Unit {0}
+AllBelow top (m ∷ ms) = (m .byte + m .len ≤ top) × AllBelow top ms
+
+below-more : (top : ℕ) (ms : List Mark) (m : Mark) → AllBelow top ms → m .byte + m .len ≤ top → AllBelow top (ms ++ (m ∷ []))
+below-more top [] m k h = (h, tt)
+below-more top (x ∷ ms) m k h = (k .0, below-more top ms m (k .1) h)
+
 then-more : (ms : List Mark) (m : Mark) (d : Dues) → recordsThen (ms ++ (m ∷ [])) d ≡ recordsThen ms (meant.gives m ∷ d)
 then-more [] m d = refl
 then-more (x ∷ ms) m d = ap (λ (l : Dues). meant.gives x ∷ l) (then-more ms m d)
@@ -196,6 +205,8 @@ module _ (X : List ℕ) (C : ℕ) (w : List ℕ) (f : Fill) (T line : ℕ) (D : 
     pub used-is : endsBefore (g .marks) (g .count) ≡ g .used
     pub used-fits : g .used ≤ length (g .ends)
     pub each : Each (f .base .0) line (g .marks) (g .ends) (g .used) 0 ms
+    pub below : AllBelow (f .base .0 + f .filled) ms
+    pub marks-fit : g .count + g .count ≤ length (g .marks)
     pub due-is : D ≡ recordsThen ms (dueTo X C (g .reader) (g .table))
     pub rests : Rests (g .reader)
     pub fresh : Fresh X C (g .reader) (g .table)
@@ -212,7 +223,7 @@ module _ (X : List ℕ) (C : ℕ) (w : List ℕ) (f : Fill) (T line : ℕ) (D : 
       (t : Tells X C (g .reader) w (g .table)) (fill-is : g .reader .fill ≡ f) (slots-are : g .reader .slots ≡ T)
       (on-line : g .reader .mark .line ≡ line + g .used)
       (count-is : length ms ≡ g .count) (used-is : endsBefore (g .marks) (g .count) ≡ g .used)
-      (each : Each (f .base .0) line (g .marks) (g .ends) (g .used) 0 ms)
+      (each : Each (f .base .0) line (g .marks) (g .ends) (g .used) 0 ms) (below : AllBelow (f .base .0 + f .filled) ms)
       (due-is : D ≡ recordsThen ms (meant.gives m ∷ dueTo X C (g .reader) (g .table)))
       (has-room : g .count + g .count + (suc room + suc room) ≤ length (g .marks)) (fit : g .used + g .reader .mark .count ≤ length (g .ends)) where
     abbrev n : ℕ
@@ -248,6 +259,15 @@ module _ (X : List ℕ) (C : ℕ) (w : List ℕ) (f : Fill) (T line : ℕ) (D : 
                 used-is = used-then (f .base .0) line (g .marks) (g .ends) (g .used) (g .count) (g .reader .mark .start .0) n src long fit free used-is;
                 used-fits = omega (arith, length-pasted (g .used) src (g .ends) (omega (arith, long)));
                 each = table;
+                below =
+                    below-more (f .base .0 + f .filled) ms m below
+                    (omega
+                    (arith, k .byte-is, k .len-is, base-is, ap (λ (x : Fill). x .filled) fill-is, t .is-good .is-sane .search-filled, t .is-good .is-sane .start-search));
+                marks-fit =
+                    omega
+                    (arith,
+                    length-set (set (g .marks) (g .count + g .count) (g .reader .mark .start .0)) (g .count + g .count + 1) (g .used + n),
+                    length-set (g .marks) (g .count + g .count) (g .reader .mark .start .0));
                 due-is = due-is ∙ sym (then-more ms m (dueTo X C (g .reader) (g .table)));
                 rests = at-rest (g .reader) (ap isWindow (k .is-current)) (ap isTable (k .is-current));
                 fresh = fresh-other X C (g .reader) (g .table) (ap isSearching (k .is-current));
@@ -292,6 +312,8 @@ module _ (X : List ℕ) (C : ℕ) (w : List ℕ) (f : Fill) (T line : ℕ) (D : 
           used-is = k .gathers .used-is;
           used-fits = k .gathers .used-fits;
           each = k .gathers .each;
+          below = k .gathers .below;
+          marks-fit = k .gathers .marks-fit;
           due-is = k .gathers .due-is ∙ ap (recordsThen ms) (sym same);
           rests = rests;
           fresh = fresh;
@@ -331,7 +353,7 @@ module _ (X : List ℕ) (C : ℕ) (w : List ℕ) (f : Fill) (T line : ℕ) (D : 
       pub more : (j : ℕ) → room ≡ suc j → fits (then′ g) ≡ true → Going j (put (then′ g)) (ms ++ (seen .mark ∷ []))
       more j left fit =
           puts j (then′ g) ms (seen .mark) (seen .holds) (step .tells) (next .fill-same ∙ k .gathers .fill-is) (next .slots-same ∙ k .gathers .slots-are)
-          (next .next-line (ap isWhole is) ∙ k .next-line) (k .gathers .count-is) (k .gathers .used-is) (k .gathers .each)
+          (next .next-line (ap isWhole is) ∙ k .next-line) (k .gathers .count-is) (k .gathers .used-is) (k .gathers .each) (k .gathers .below)
           (k .gathers .due-is ∙ ap (recordsThen ms) (seen .due-is))
           (subst (λ (i : ℕ). g .count + g .count + (i + i) ≤ length (g .marks)) left (k .has-room))
           (leb-true (g .used + seenIn g .reader .mark .count) (length (g .ends)) fit)

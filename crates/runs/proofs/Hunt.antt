@@ -158,16 +158,17 @@ module _ (X : List ℕ) (C : ℕ) (r : Reader) (w e : List ℕ) (t : Tells X C r
       f .base .0 + f .filled ≡ base + top →
       drop (f .base .0) X ≡ take (f .filled) w′ ++ drop (f .base .0 + f .filled) X →
       largest (f .policy) (f .lent) (f .capacity) ≡ C →
+      f .lent ≡ r .fill .lent →
       dueIn phase.Searching X C (withFill f (withMark m r)) e′ ≡ due →
       Step X C r due (asked (withFill f (withMark m r)) w′ e′)
-  asks-on f m w′ e′ is open′ still reach text most same =
+  asks-on f m w′ e′ is open′ still reach text most lent same =
       record {
         goes = (ap (λ (p : Phase). dueIn p X C (withFill (asking true f) (withMark m r)) e′) is ∙ same, (refl, refl));
         text = text;
         told = λ u. absurd (false≢true (sym still ∙ u));
         largest-is = most;
         sought-inside = λ u. absurd (false≢true (sym (ap isSought is) ∙ u));
-        same = record { reaches = reach; end-told = still ∙ sym open′; slots-are = refl };
+        same = record { reaches = reach; end-told = still ∙ sym open′; slots-are = refl; lent-is = lent };
         rests = λ k. at-rest (asked (withFill f (withMark m r)) w′ e′ .reader) (ap isWindow is) (ap isTable is);
         settled = tt;
       }
@@ -200,7 +201,7 @@ module _ (X : List ℕ) (C : ℕ) (r : Reader) (w e : List ℕ) (t : Tells X C r
       ∙ (λ i. asked (withFill (sound-slid (r .fill) v start inside i) (withMark mark r)) (sound-slid-window (r .fill) v start w inside i) moved))
       (asks-on (dropped start (r .fill)) mark (movedDown start top w) moved is open′ open′ reach
       (text-slid X w base top (t .text) long start inside)
-      (t .largest-is)
+      (t .largest-is) refl
       ((λ i. fromHere X C (r .slots) (r .mark .line) (byte i) (place i) (table-is i)) ∙ same))
 
   -- What follows a search that answered s, where one pass finds the records ms from the same place on: what is due is judged by them.
@@ -339,7 +340,7 @@ module _ (X : List ℕ) (C : ℕ) (r : Reader) (w e : List ℕ) (t : Tells X C r
         wider-asks : start ≤ 0 → (c : ℕ) → widenedTo (r .fill) ≡ some c → Step X C r due (makesRoom q w (s .ends))
         wider-asks z c p =
             step-as refl (room-wider q w (s .ends) z (ofCapacity c (r .fill)) (sym (ap (λ (o : Option ℕ). wider o (r .fill)) p)))
-            (asks-on (ofCapacity c (r .fill)) (q .mark) w (s .ends) is open′ open′ refl (t .text) (grown-largest (r .fill) c p ∙ t .largest-is) (still-due inside (k .are)))
+            (asks-on (ofCapacity c (r .fill)) (q .mark) w (s .ends) is open′ open′ refl (t .text) (grown-largest (r .fill) c p ∙ t .largest-is) refl (still-due inside (k .are)))
 
         too-long : start ≤ 0 → top ≡ r .fill .capacity → widenedTo (r .fill) ≡ none → Step X C r due (makesRoom q w (s .ends))
         too-long z full p =

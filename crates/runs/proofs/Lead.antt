@@ -94,7 +94,7 @@ module _ (X : List ℕ) (C : ℕ) (r : Reader) (w e : List ℕ) (t : Tells X C r
         told = λ yes′. absurd (false≢true (sym told ∙ yes′));
         largest-is = t .largest-is;
         sought-inside = λ at. absurd (false≢true (ap isSought (sym is) ∙ at));
-        same = record { reaches = omega arith; end-told = refl; slots-are = refl };
+        same = record { reaches = omega arith; end-told = refl; slots-are = refl; lent-is = refl };
         rests = λ k. record { at-front = λ at. refl; all-slots = λ at. absurd (false≢true (ap isTable (sym is) ∙ at)) };
         settled = tt;
       })

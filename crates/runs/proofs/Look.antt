@@ -104,7 +104,7 @@ module _ (X : List ℕ) (C : ℕ) (r : Reader) (w e : List ℕ) (t : Tells X C r
       (record {
         tells = tells-with X C r w e t m phase.Ahead e′ refl (good _ q) (λ s. b);
         sees = (same, from);
-        same = record { reaches = refl; end-told = refl; slots-are = refl };
+        same = record { reaches = refl; end-told = refl; slots-are = refl; lent-is = refl };
       })
 
   -- a record is whole: it is due first
@@ -119,7 +119,7 @@ module _ (X : List ℕ) (C : ℕ) (r : Reader) (w e : List ℕ) (t : Tells X C r
       (record {
         tells = tells-with X C r w e t m phase.Current e′ refl (good _ q) (λ s. absurd (false≢true s));
         sees = (k, from);
-        same = record { reaches = refl; end-told = refl; slots-are = refl };
+        same = record { reaches = refl; end-told = refl; slots-are = refl; lent-is = refl };
       })
 
   -- the end, behind the last record
@@ -132,7 +132,7 @@ module _ (X : List ℕ) (C : ℕ) (r : Reader) (w e : List ℕ) (t : Tells X C r
       (record {
         tells = tells-with X C r w e t (r .mark) phase.Over e refl (good _ q) (λ s. absurd (false≢true s));
         sees = (none-left X C (r .slots) (r .mark .line + r .mark .count) b (suc b) [] all, (refl, refl));
-        same = record { reaches = refl; end-told = refl; slots-are = refl };
+        same = record { reaches = refl; end-told = refl; slots-are = refl; lent-is = refl };
       })
 
   -- behind the current record
@@ -250,7 +250,7 @@ module _ (X : List ℕ) (C : ℕ) (r : Reader) (w e : List ℕ) (t : Tells X C r
   put-back-due = ap (λ (x : Reader). dueTo X C x e) back-is ∙ begun-due X C r e (r .mark .start .0) (r .mark .line)
 
   pub put-back-same : Same r (putBackOf r)
-  put-back-same = subst (Same r) (sym back-is) (record { reaches = refl; end-told = refl; slots-are = refl })
+  put-back-same = subst (Same r) (sym back-is) (record { reaches = refl; end-told = refl; slots-are = refl; lent-is = refl })
 
 -- A record that a look saw and that is put back leaves due what was due before the look.
 pub look-put-back :

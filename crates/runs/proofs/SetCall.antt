@@ -7,9 +7,11 @@ use mathlib.Core.List.{List, [], _∷_, _++_}
 use mathlib.Core.Logic.{_⊎_, inl, inr}
 use mathlib.Core.Option.{Option, none, some, Option·none-ne-some, Option·some-injective}
 use mathlib.Core.Path.{_≡_, refl, sym, ap, subst, _∙_}
-use lib.ListN.{length, drop}
+use lib.ListN.{length, take, drop}
+use lib.Seq.{length-take-le, take-at}
+use Rattle.scan.proofs.Paste.{pasted-room, length-pasted}
 use lib.Dec.{eqb, ltb, leb}
-use borrow.Author.Tests.{leb-true, eq-eqb}
+use borrow.Author.Tests.{leb-true, ltb-false, eq-eqb}
 use Rattle.meaning.specs.Due as meant
 use Rattle.meaning.specs.Due.{dueBy}
 use Rattle.meaning.specs.OnePass.{Mark, Marked, good, bad, marks, leadMarks, tableMark, judgedMark, placeMark, dueMarks}
@@ -35,7 +37,7 @@ use Rattle.runs.proofs.Step.{steps, still-tells}
 use Rattle.runs.proofs.Look.{put-back-tells}
 use Rattle.runs.proofs.Back.{Fresh, read-backs, read-put-back, fresh-put-back}
 use Rattle.runs.proofs.SetTable.{Each}
-use Rattle.runs.proofs.Gather.{closed-due, Given, given, recordsThen, Gathers, Going, puts, All, gathers-all}
+use Rattle.runs.proofs.Gather.{closed-due, Given, given, recordsThen, AllBelow, Gathers, Going, puts, All, gathers-all}
 
 -- ---- a refusal that is due has a number of at most 5
 
@@ -145,6 +147,13 @@ pub record Holds (X : List ℕ) (C : ℕ) (k filled : ℕ) (D : Dues) (c : Calle
   pub due-is : D ≡ recordsThen marks-are (dueTo X C (c .reader) (c .table))
   pub each : Each (c .set .base .0) (c .set .line) (c .marks) (c .ends) used 0 marks-are
   pub in-table : used ≤ length (c .ends)
+  pub count-is : c .set .count ≡ k
+  pub marks-fit : k + k ≤ length (c .marks)
+  pub below : AllBelow (c .set .base .0 + c .set .filled) marks-are
+  pub same-place : c .reader .fill .base .0 ≡ c .set .base .0
+  pub same-filled : c .reader .fill .filled ≡ c .set .filled
+  pub bytes-fit : c .set .filled ≤ length (c .bytes)
+  pub bytes-are : take (c .set .filled) (c .bytes) ≡ take (c .set .filled) (c .window)
 
 abbrev pub SetGoes : set.Said → Dues → (X : List ℕ) (C : ℕ) → Called → Type 0
 SetGoes (set.asks p m o) D X C c = dueTo X C (c .reader) (c .table) ≡ D
@@ -215,7 +224,7 @@ module _ (X : List ℕ) (C : ℕ) (r : Reader) (w e : List ℕ) (t : Tells X C r
       pub going : Going X C (d .window) (d .reader .fill) (d .reader .slots) (d .reader .mark .line) D room (put begun) (first .mark ∷ [])
       going =
           puts X C (d .window) (d .reader .fill) (d .reader .slots) (d .reader .mark .line) D room begun [] (first .mark) (first .holds) tells-then refl refl
-          (let z : d .reader .mark .line ≡ d .reader .mark .line + 0 = omega arith in z) refl refl tt (first .due-is)
+          (let z : d .reader .mark .line ≡ d .reader .mark .line + 0 = omega arith in z) refl refl tt tt (first .due-is)
           (omega (arith, pairs-room M, left)) (leb-true (0 + d .reader .mark .count) (length E) fit)
 
       all : All X C (d .window) (d .reader .fill) (d .reader .slots) (d .reader .mark .line) D (first .mark ∷ []) (gather room (d .window) (put begun))
@@ -306,7 +315,24 @@ module _ (X : List ℕ) (C : ℕ) (r : Reader) (w e : List ℕ) (t : Tells X C r
           goes = goes;
         }
 
-    module _ (l b : ℕ) (is : d .said ≡ gives l b) where
+    module _ (l b : ℕ) (is : d .said ≡ gives l b) (enough : ltb (length B) (length w) ≡ false) where
+      -- the filled bytes, which the set has room for
+      abbrev copied : List ℕ
+      copied = take (d .reader .fill .filled) (d .window)
+
+      window-fits : d .reader .fill .filled ≤ length (d .window)
+      window-fits =
+          let v = tells-then .is-good .is-sane .window-sound in
+          omega (arith, v .filled-fits, v .capacity-fits, tells-then .is-good .window-lent)
+
+      copied-long : length copied ≡ d .reader .fill .filled
+      copied-long = length-take-le (d .reader .fill .filled) (d .window) window-fits
+
+      copied-fits : d .reader .fill .filled ≤ length B
+      copied-fits =
+          omega
+          (arith, window-fits, ltb-false (length B) (length w) enough, tells-then .is-good .window-lent, t .is-good .window-lent, step .same .lent-is)
+
       -- it does not fit: the next read gives it
       refused : Does (refused12 s B M E (putBackOf (d .reader)) (d .window) (d .table))
       refused =
@@ -338,6 +364,15 @@ module _ (X : List ℕ) (C : ℕ) (r : Reader) (w e : List ℕ) (t : Tells X C r
                     due-is = g .due-is;
                     each = g .each;
                     in-table = g .used-fits;
+                    count-is = refl;
+                    marks-fit = g .marks-fit;
+                    below = g .below;
+                    same-place = ap (λ (x : Fill). x .base .0) (g .fill-is);
+                    same-filled = ap (λ (x : Fill). x .filled) (g .fill-is);
+                    bytes-fit = omega (arith, copied-fits, length-pasted 0 copied B (omega (arith, copied-fits, copied-long)));
+                    bytes-are =
+                        ap (take (d .reader .fill .filled)) (pasted-room 0 copied B (omega (arith, copied-fits, copied-long)))
+                        ∙ take-at copied (drop (0 + length copied) B) (d .reader .fill .filled) copied-long;
                   };
             }
 
@@ -349,11 +384,11 @@ module _ (X : List ℕ) (C : ℕ) (r : Reader) (w e : List ℕ) (t : Tells X C r
           go true u = filled room left u
           go false u = refused
 
-    after-read : (a : Said) → d .said ≡ a → Goes a D X C (d .reader) (d .table) → Does (afterRead s B M E a d)
-    after-read (asks p m o) is q = as-read (set.asks p m o) (emptied s) (q .0)
-    after-read (gives l b) is q = collected l b is (pairs M) refl
-    after-read ends is q = as-read set.ends (emptied s) (q .then-due)
-    after-read (refuses n vs) is q =
+    after-read : (a : Said) → d .said ≡ a → ltb (length B) (length w) ≡ false → Goes a D X C (d .reader) (d .table) → Does (afterRead s B M E a d)
+    after-read (asks p m o) is enough q = as-read (set.asks p m o) (emptied s) (q .0)
+    after-read (gives l b) is enough q = collected l b is enough (pairs M) refl
+    after-read ends is enough q = as-read set.ends (emptied s) (q .then-due)
+    after-read (refuses n vs) is enough q =
         as-read (set.refuses n vs) _ (inr (few n vs is, q .then-due))
 
     pub sets : Does c
@@ -362,4 +397,4 @@ module _ (X : List ℕ) (C : ℕ) (r : Reader) (w e : List ℕ) (t : Tells X C r
         go : (u : Bool) → sound s (length B) (length M) ≡ u → (v : Bool) → ltb (length B) (length w) ≡ v → Does c
         go false u v x = subst Does (sym (unsound u)) (stays (set.refuses 11 []) s (inl (inl refl, refl)))
         go true u true x = subst Does (sym (short u x)) (stays (set.refuses 12 []) (emptied s) (inl (inr refl, refl)))
-        go true u false x = subst Does (sym (reads u x)) (after-read (d .said) refl (step .goes))
+        go true u false x = subst Does (sym (reads u x)) (after-read (d .said) refl x (step .goes))

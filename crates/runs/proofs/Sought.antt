@@ -103,7 +103,7 @@ module _ (X : List ℕ) (C : ℕ) (r : Reader) (w e : List ℕ) (t : Tells X C r
         told = λ is. absurd (false≢true (sym (unready-told (r .fill) no′) ∙ is));
         largest-is = t .largest-is;
         sought-inside = λ is. absurd (false≢true is);
-        same = record { reaches = refl; end-told = refl; slots-are = refl };
+        same = record { reaches = refl; end-told = refl; slots-are = refl; lent-is = refl };
         rests = λ k. at-rest (asked (passed r) w e .reader) refl refl;
         settled = tt;
       }

@@ -47,7 +47,7 @@ module _ (X : List ℕ) (C : ℕ) (r : Reader) (w e : List ℕ) (t : Tells X C r
         told = t .told;
         largest-is = t .largest-is;
         sought-inside = t .sought-inside;
-        same = record { reaches = refl; end-told = refl; slots-are = refl };
+        same = record { reaches = refl; end-told = refl; slots-are = refl; lent-is = refl };
         rests = λ k. k;
         settled = settled;
       }
@@ -61,7 +61,7 @@ module _ (X : List ℕ) (C : ℕ) (r : Reader) (w e : List ℕ) (t : Tells X C r
         told = λ is. absurd (false≢true (sym quiet ∙ is));
         largest-is = t .largest-is;
         sought-inside = t .sought-inside;
-        same = record { reaches = refl; end-told = refl; slots-are = refl };
+        same = record { reaches = refl; end-told = refl; slots-are = refl; lent-is = refl };
         rests = λ k. record { at-front = k .at-front; all-slots = k .all-slots };
         settled = tt;
       }
@@ -116,7 +116,7 @@ module _ (X : List ℕ) (C : ℕ) (r : Reader) (w e : List ℕ) (t : Tells X C r
             told = s .told;
             largest-is = s .largest-is;
             sought-inside = s .sought-inside;
-            same = record { reaches = s .same .reaches; end-told = s .same .end-told; slots-are = s .same .slots-are };
+            same = record { reaches = s .same .reaches; end-told = s .same .end-told; slots-are = s .same .slots-are; lent-is = s .same .lent-is };
             rests = λ k. s .rests (at-rest on refl refl);
             settled = s .settled;
           }

@@ -187,6 +187,7 @@ pub record Same (r q : Reader) : Type 0 where
   pub reaches : q .fill .base .0 + q .fill .filled ≡ r .fill .base .0 + r .fill .filled
   pub end-told : q .fill .told ≡ r .fill .told
   pub slots-are : q .slots ≡ r .slots
+  pub lent-is : q .fill .lent ≡ r .fill .lent
 
 -- a read that goes on as it should, from a reader r to what it did
 pub record Step (X : List ℕ) (C : ℕ) (r : Reader) (due : Dues) (d : Did) : Type 0 where

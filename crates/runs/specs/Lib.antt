@@ -8,5 +8,6 @@ pub mod Progress
 pub mod Served
 pub mod Resume
 pub mod Standing
+pub mod Sets
 pub mod Samples
 pub mod Listed

@@ -1,0 +1,63 @@
+-- Sets in any run (01, module 6 and refusal 12): the records of a set are the next ones that single reads would give, at least one, in order, each with its
+-- position, shown by the set's views and written by its writers; an ask, the end and refusals 2 to 5 are those of a read; 11 and 12 come exactly when
+-- the table says. That the rest is read next is demand 3, whose runs have set calls too. Assumes nothing.
+use Prim.Native.Nat.{ℕ, _+_, _≤_, _<_}
+use mathlib.Core.Bool.{false}
+use mathlib.Core.List.{List, []}
+use mathlib.Core.Logic.{_⊎_}
+use mathlib.Core.Path.{_≡_}
+use lib.ListN.{length}
+use Rattle.growth.specs.declared.Policy.{Policy}
+use Rattle.growth.specs.Chain.{largest}
+use Rattle.meaning.specs.Line.{lines}
+use Rattle.meaning.specs.Input.{Rec}
+use Rattle.meaning.specs.Due as meant
+use Rattle.reader.specs.Calls.{at}
+use Rattle.set.specs.declared.state.Set.{Set}
+use Rattle.set.specs.Set.{sound, recordOf}
+use Rattle.set.specs.Record.{placeHeld}
+use Rattle.set.specs.Shown.{ShowsAt, WritesAt}
+use Rattle.set.specs.Read as set
+use Rattle.set.specs.Read.{Called}
+use Rattle.runs.specs.Run.{State, Made, setting, Event, Run}
+use Rattle.runs.specs.Demand.{origin, answers, dueFrom, nth}
+
+-- record i of a set is this one
+pub record GivesAt (r : Rec) (i : ℕ) (c : Called) : Type 0 where
+  pub position : placeHeld (c .set) (recordOf (c .set) (length (c .bytes)) (c .marks) (length (c .ends)) i) ≡ at (r .line) (r .byte)
+  pub shows : ShowsAt (c .set) (c .bytes) (c .marks) (c .ends) i r
+  pub writes : WritesAt (c .set) (c .bytes) (c .marks) (c .ends) i r
+
+-- a record is due
+abbrev pub IfRecord : meant.Said Rec → (Rec → Type 0) → Type 0
+IfRecord (meant.gives r) P = P r
+IfRecord meant.ends P = ⊥
+IfRecord (meant.refuses n vs) P = ⊥
+
+-- it does not fit the set's tables: two marks for each record, and an end for each line
+abbrev pub Misfits : (marks ends : ℕ) → Rec → Type 0
+Misfits marks ends r = (marks < 2) ⊎ (ends < length (lines (r .bytes)))
+
+-- 11 for the set; 12 for its bytes, for its tables; or the refusal that a read is due
+abbrev pub Refused : (number : ℕ) (values : List ℕ) (next : meant.Said Rec) → Set → (bytes marks ends window : ℕ) → Type 0
+Refused number values next t bytes marks ends window =
+    ((number ≡ 11) × (sound t bytes marks ≡ false))
+    ⊎ (((number ≡ 12) × (bytes < window))
+    ⊎ (((number ≡ 12) × IfRecord next (Misfits marks ends))
+    ⊎ (next ≡ meant.refuses number values)))
+
+abbrev pub HearsSet : set.Said → (next : ℕ → meant.Said Rec) → Set → (bytes marks ends window : ℕ) → Called → Type 0
+HearsSet (set.asks p m o) next t bytes marks ends window c = Unit {0}
+HearsSet (set.holds k filled) next t bytes marks ends window c = (1 ≤ k) × ((i : ℕ) → i < k → IfRecord (next i) (λ (r : Rec). GivesAt r i c))
+HearsSet set.ends next t bytes marks ends window c = next 0 ≡ meant.ends
+HearsSet (set.refuses n vs) next t bytes marks ends window c = Refused n vs (next 0) t bytes marks ends window
+
+abbrev pub Sets : Type 0
+Sets =
+    (X : List ℕ) (capacity : ℕ) (policy : Policy) (start : State) → Made capacity policy start →
+    (h : List Event) (s : State) → Run X start h s →
+    (t : Set) (bytes marks ends : List ℕ) →
+    let C = largest policy (length (start .window)) capacity in
+    let T = length (start .table) in
+    HearsSet (setting t bytes marks ends s .said) (λ (i : ℕ). nth (i + answers h) (dueFrom X C T (origin h))) t (length bytes) (length marks) (length ends)
+    (length (s .window)) (setting t bytes marks ends s)
