@@ -1,6 +1,6 @@
 -- The answers due in the one-pass form are those of the input's meaning, and each record among them stands in the input: its ends are those
 -- of its lines, and a `>` is its first byte. Assumes nothing.
-use Prim.Native.Nat.{ℕ, zero, suc, _≤_}
+use Prim.Native.Nat.{ℕ, zero, suc, _+_, _≤_}
 use mathlib.Core.Bool.{Bool, true, false, cond}
 use mathlib.Core.List.{List, [], _∷_, map}
 use mathlib.Core.Option.{Option, none, some}
@@ -18,10 +18,12 @@ use Rattle.meaning.proofs.Places.{Stand, records-stand}
 use Rattle.runs.specs.Demand.{front, place, dueFrom}
 use Rattle.runs.proofs.Tells.{Dues, judge, atSought, later}
 
--- a mark whose ends are right, at a `>` of X
+-- a mark whose ends are right, at a `>` of X, on a line that refusal 5 allows there
 pub record Fine (X : List ℕ) (m : Mark) : Type 0 where
   pub is-right : Right X m
   pub is-mark : getD X (m .byte) 0 ≡ 62
+  pub line-least : 1 ≤ m .line
+  pub line-most : m .line ≤ m .byte + 1
 
 abbrev pub IsFine : (X : List ℕ) → Said Mark → Type 0
 IsFine X (gives m) = Fine X m
@@ -46,7 +48,10 @@ module _ (X : List ℕ) (C T : ℕ) where
   -- marks that are right, of records that stand in X
   fine-marks : (ms : List Mark) → All (Right X) ms → Stand X (map (cutOut X) ms) → All (Fine X) ms
   fine-marks [] rs st = tt
-  fine-marks (m ∷ ms) rs st = (record { is-right = rs .0; is-mark = st .0 .mark }, fine-marks ms (rs .1) (st .1))
+  fine-marks (m ∷ ms) rs st = (
+    record { is-right = rs .0; is-mark = st .0 .mark; line-least = st .0 .line-least; line-most = st .0 .line-most },
+    fine-marks ms (rs .1) (st .1),
+  )
 
   fine-judged : (ms : List Mark) → All (Fine X) ms → AllFine X (judge C T ms)
   unfolding dueBy

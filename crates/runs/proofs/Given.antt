@@ -33,34 +33,7 @@ use Rattle.runs.specs.Run.{state}
 use Rattle.runs.specs.Demand.{Gives}
 use Rattle.runs.proofs.Tells.{Tells, Holds}
 use Rattle.runs.proofs.Fine.{Fine}
-
--- places counted from b on
-abbrev shifted : (b : ℕ) → List ℕ → List ℕ
-shifted b es = map (λ (x : ℕ). b + x) es
-
-shift-closing : (b i : ℕ) (t : Bool) (es : List ℕ) → closing t (b + i) (shifted b es) ≡ shifted b (closing t i es)
-shift-closing b i true es = refl
-shift-closing b i false es = refl
-
-ends-shift : (b : ℕ) (xs : List ℕ) (i : ℕ) (fresh : Bool) → endsAt (b + i) xs fresh ≡ shifted b (endsAt i xs fresh)
-unfolding endsAt
-ends-shift b [] i true = refl
-ends-shift b [] i false = refl
-ends-shift b (x ∷ xs) i fresh =
-    let s : suc (b + i) ≡ b + suc i = omega arith in
-    ap (λ (n : ℕ). closing (eqb x 10) (b + i) (endsAt n xs (eqb x 10))) s
-    ∙ ap (closing (eqb x 10) (b + i)) (ends-shift b xs (suc i) (eqb x 10))
-    ∙ shift-closing b i (eqb x 10) (endsAt (suc i) xs (eqb x 10))
-
-shift-injective : (b : ℕ) (es fs : List ℕ) → shifted b es ≡ shifted b fs → es ≡ fs
-shift-injective b [] [] e = refl
-shift-injective b [] (f ∷ fs) e = absurd (let z : 0 ≡ suc (length (shifted b fs)) = ap length e in omega arith)
-shift-injective b (x ∷ es) [] e = absurd (let z : suc (length (shifted b es)) ≡ 0 = ap length e in omega arith)
-shift-injective b (x ∷ es) (f ∷ fs) e =
-    let h : b + x ≡ b + f = ap (λ (l : List ℕ). getD l 0 0) e in
-    let k : x ≡ f = omega arith in
-    let t = shift-injective b es fs (ap (drop 1) e) in
-    λ i. k i ∷ t i
+use Rattle.runs.proofs.Stood.{stands}
 
 module _ (X : List ℕ) (C : ℕ) (r : Reader) (w e : List ℕ) (t : Tells X C r w e) (m : Mark) (f : Fine X m) (k : Holds m r e) where
   abbrev filled : ℕ
@@ -96,39 +69,8 @@ module _ (X : List ℕ) (C : ℕ) (r : Reader) (w e : List ℕ) (t : Tells X C r
   inside : start + m .len ≤ length F
   inside = omega (arith, k .len-is, long, t .is-good .is-sane .search-filled, t .is-good .is-sane .start-search)
 
-  -- the record's bytes in the window
-  there : take (m .len) (drop start F) ≡ rec .bytes
-  there =
-      let rest = drop (r .fill .base .0 + r .fill .filled) X in
-      let z : m .len ≤ length (drop start F) = omega (arith, length-drop start F, inside) in
-      sym (take-append-le (m .len) (drop start F) rest z)
-      ∙ ap (take (m .len))
-      (sym (drop-append-le start F rest (omega (arith, inside)))
-      ∙ ap (drop start) (sym (t .text))
-      ∙ drop-drop start (r .fill .base .0) X
-      ∙ ap (λ (n : ℕ). drop n X) (sym (k .byte-is)))
-
-  first : (n : ℕ) → m .len ≡ suc n → rec .bytes ≡ 62 ∷ take n (drop (suc (m .byte)) X)
-  first n is =
-      ap (λ (l : ℕ). take l (drop (m .byte) X)) is
-      ∙ ap (take (suc n)) (drop-cons X (m .byte) 0 (omega (arith, f .is-right .there, some-byte)))
-      ∙ ap (λ (x : ℕ). x ∷ take n (drop (suc (m .byte)) X)) (f .is-mark)
-
-  stands : Stands F start rec es
-  stands =
-      let n = m .len - 1 in
-      let is : m .len ≡ suc n = omega (arith, some-byte) in
-      record {
-        rest = take n (drop (suc (m .byte)) X);
-        begins = first n is;
-        there = ap (λ (l : ℕ). take l (drop start F)) (right-size X m (f .is-right)) ∙ there;
-        are =
-            shift-injective (r .fill .base .0) es (endsAt start (rec .bytes) true)
-            (sym (k .ends-are)
-            ∙ f .is-right .ends-are
-            ∙ ap (λ (b : ℕ). endsAt b (rec .bytes) true) (k .byte-is)
-            ∙ ends-shift (r .fill .base .0) (rec .bytes) start true);
-      }
+  is-standing : Stands F start rec es
+  is-standing = stands X (r .fill .base .0) F (drop (r .fill .base .0 + r .fill .filled) X) (t .text) m f start es (k .byte-is) (k .ends-are) some-byte inside
 
   shown : currentOf (length w) (length e) r ≡ held start (r .fill .filled) (r .mark .count)
   shown =
@@ -144,15 +86,15 @@ module _ (X : List ℕ) (C : ℕ) (r : Reader) (w e : List ℕ) (t : Tells X C r
         position =
             place-shown r (sane-true r (t .is-good .is-sane)) phase.Current (k .is-current)
             ∙ (λ i. at (sym (k .line-is) i) (sym (k .byte-is) i));
-        head = by-view headIn (some (headOf rec)) (head-wider filled w start rec es fits stands);
-        id = by-view idIn (some (idOf (headOf rec))) (id-wider filled w start rec es fits stands);
-        desc = by-view descIn (descOf (headOf rec)) (desc-wider filled w start rec es fits stands);
-        lines = ap (ofHeld w e (λ bytes start es. are (lineCount es)) current.refuses) shown ∙ ap are (count-is F start rec es stands);
+        head = by-view headIn (some (headOf rec)) (head-wider filled w start rec es fits is-standing);
+        id = by-view idIn (some (idOf (headOf rec))) (id-wider filled w start rec es fits is-standing);
+        desc = by-view descIn (descOf (headOf rec)) (desc-wider filled w start rec es fits is-standing);
+        lines = ap (ofHeld w e (λ bytes start es. are (lineCount es)) current.refuses) shown ∙ ap are (count-is F start rec es is-standing);
         line =
             λ i h.
-            by-view (λ bytes start es. lineIn bytes start es i) (some (getD (seqLines rec) i [])) (line-wider filled w start rec es fits stands i h);
+            by-view (λ bytes start es. lineIn bytes start es i) (some (getD (seqLines rec) i [])) (line-wider filled w start rec es fits is-standing i h);
         sequence =
             λ scratch room.
             let is = ap (ofHeld w e (λ bytes start es. fullIn bytes start es scratch) (λ n. left (full.refuses n []) scratch)) shown in
-            subst (λ (o : Left). picked w (o .scratch) (o .answer) ≡ seqOf rec) (sym is) (full-wider filled w start rec es fits stands scratch room);
+            subst (λ (o : Left). picked w (o .scratch) (o .answer) ≡ seqOf rec) (sym is) (full-wider filled w start rec es fits is-standing scratch room);
       }

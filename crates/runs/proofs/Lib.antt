@@ -12,6 +12,7 @@ pub mod Look
 pub mod Calls
 pub mod Back
 pub mod Fine
+pub mod Stood
 pub mod Given
 pub mod Reached
 pub mod Demand
@@ -29,4 +30,5 @@ pub mod SetTable
 pub mod Gather
 pub mod SetCall
 pub mod SetPlace
+pub mod Sets
 pub mod Listed
