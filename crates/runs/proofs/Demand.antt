@@ -53,7 +53,7 @@ module _ (X : List ℕ) (C T : ℕ) (h : List Event) (s : State) (k : Reached X 
   then′ = reached-read X C T h s k
 
   -- the first that is due
-  next-is : (a : meant.Said Mark) (rest : Dues) → due ≡ a ∷ rest → nth (answers h) (dueFrom X C T (origin h)) ≡ saidOf X a
+  pub next-is : (a : meant.Said Mark) (rest : Dues) → due ≡ a ∷ rest → nth (answers h) (dueFrom X C T (origin h)) ≡ saidOf X a
   next-is a rest is =
       nth-after (answers h) (dueFrom X C T (origin h)) (saidOf X a) (map (saidOf X) rest) (sym (k .due-is) ∙ ap (map (saidOf X)) is)
 

@@ -264,10 +264,11 @@ module _ (X : List ℕ) (C : ℕ) (w : List ℕ) (f : Fill) (T line : ℕ) (D : 
                     (omega
                     (arith, k .byte-is, k .len-is, base-is, ap (λ (x : Fill). x .filled) fill-is, t .is-good .is-sane .search-filled, t .is-good .is-sane .start-search));
                 marks-fit =
-                    omega
-                    (arith,
-                    length-set (set (g .marks) (g .count + g .count) (g .reader .mark .start .0)) (g .count + g .count + 1) (g .used + n),
-                    length-set (g .marks) (g .count + g .count) (g .reader .mark .start .0));
+                    omega (
+                      arith,
+                      length-set (set (g .marks) (g .count + g .count) (g .reader .mark .start .0)) (g .count + g .count + 1) (g .used + n),
+                      length-set (g .marks) (g .count + g .count) (g .reader .mark .start .0),
+                    );
                 due-is = due-is ∙ sym (then-more ms m (dueTo X C (g .reader) (g .table)));
                 rests = at-rest (g .reader) (ap isWindow (k .is-current)) (ap isTable (k .is-current));
                 fresh = fresh-other X C (g .reader) (g .table) (ap isSearching (k .is-current));

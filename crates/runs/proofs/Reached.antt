@@ -38,18 +38,18 @@ use Rattle.runs.proofs.Gather.{Closed, closed-due, closed-then, later-r
 use Rattle.runs.proofs.SetCall.{Holds, SetGoes, Sets, sets}
 use Rattle.runs.proofs.Fine.{AllFine, fine-later, after, fine-front, said-front, fine-sought, said-sought}
 
-map-later : {A B : Type 0} (f : A → B) (d : List A) → map f (later d) ≡ later (map f d)
+pub map-later : {A B : Type 0} (f : A → B) (d : List A) → map f (later d) ≡ later (map f d)
 map-later f [] = refl
 map-later f (a ∷ []) = refl
 map-later f (a ∷ b ∷ d) = refl
 
 -- answers after others
-after-add : {A : Type 0} (k n : ℕ) (d : List A) → after (k + n) d ≡ after k (after n d)
+pub after-add : {A : Type 0} (k n : ℕ) (d : List A) → after (k + n) d ≡ after k (after n d)
 unfolding after
 after-add zero n d = let z : 0 + n ≡ n = omega arith in ap (λ (i : ℕ). after i d) z
 after-add (suc k) n d = let z : suc k + n ≡ suc (k + n) = omega arith in ap (λ (i : ℕ). after i d) z ∙ ap later (after-add k n d)
 
-after-first : {A : Type 0} (k : ℕ) (d : List A) → after (suc k) d ≡ after k (later d)
+pub after-first : {A : Type 0} (k : ℕ) (d : List A) → after (suc k) d ≡ after k (later d)
 unfolding after
 after-first zero d = refl
 after-first (suc k) d = ap later (after-first k d)

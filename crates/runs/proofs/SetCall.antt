@@ -11,7 +11,7 @@ use lib.ListN.{length, take, drop}
 use lib.Seq.{length-take-le, take-at}
 use Rattle.scan.proofs.Paste.{pasted-room, length-pasted}
 use lib.Dec.{eqb, ltb, leb}
-use borrow.Author.Tests.{leb-true, ltb-false, eq-eqb}
+use borrow.Author.Tests.{leb-true, leb-false, ltb-false, eq-eqb}
 use Rattle.meaning.specs.Due as meant
 use Rattle.meaning.specs.Due.{dueBy}
 use Rattle.meaning.specs.OnePass.{Mark, Marked, good, bad, marks, leadMarks, tableMark, judgedMark, placeMark, dueMarks}
@@ -136,6 +136,19 @@ valuesSaid (set.holds k filled) = []
 valuesSaid set.ends = []
 valuesSaid (set.refuses n vs) = vs
 
+-- ---- the kinds of a set call, in 01's order: 11; 12 by its bytes; what the read said; 12 by its tables; or a set
+
+pub data Kind (s : Set) (B M E : List ℕ) (r : Reader) (w e : List ℕ) : Type 0 where
+  of-state : sound s (length B) (length M) ≡ false → setOf s B M E r w e ≡ leaves s B M E (set.refuses 11 []) r w e s → Kind s B M E r w e
+  of-bytes : ltb (length B) (length w) ≡ true → setOf s B M E r w e ≡ refused12 s B M E r w e → Kind s B M E r w e
+  asks-too : (p m o : ℕ) → readOf r w e .said ≡ asks p m o → setOf s B M E r w e ≡ afterRead s B M E (asks p m o) (readOf r w e) → Kind s B M E r w e
+  ends-too : readOf r w e .said ≡ ends → setOf s B M E r w e ≡ afterRead s B M E ends (readOf r w e) → Kind s B M E r w e
+  refuses-too : (n : ℕ) (vs : List ℕ) → readOf r w e .said ≡ refuses n vs → setOf s B M E r w e ≡ afterRead s B M E (refuses n vs) (readOf r w e) → Kind s B M E r w e
+  misfits :
+      (l b : ℕ) → readOf r w e .said ≡ gives l b → (length M < 2) ⊎ (length E < readOf r w e .reader .mark .count) →
+      setOf s B M E r w e ≡ refused12 s B M E (putBackOf (readOf r w e .reader)) (readOf r w e .window) (readOf r w e .table) → Kind s B M E r w e
+  holding : (l b : ℕ) → readOf r w e .said ≡ gives l b → (g : Gathered) → setOf s B M E r w e ≡ filledWith s B M E (readOf r w e) g → Kind s B M E r w e
+
 -- ---- what a set call does to what is due
 
 -- the records of a set, by their marks: they were due first, and stand in its tables
@@ -240,60 +253,75 @@ module _ (X : List ℕ) (C : ℕ) (r : Reader) (w e : List ℕ) (t : Tells X C r
       let q = subst (λ (a : Said). Goes a D X C (d .reader) (d .table)) is (step .goes) in
       small-first n vs (q .first) (q .rest) (d .reader) (d .table) (subst Small (q .due-is) (small-due (r .phase) X C r e)) (q .says)
 
+  -- every call is of one of these kinds
+  pub kind : Kind s B M E r w e
+  kind = go (sound s (length B) (length M)) refl (ltb (length B) (length w)) refl
+    where
+      pairs-none : (ms : List ℕ) → pairs ms ≡ 0 → length ms < 2
+      pairs-none [] is = omega arith
+      pairs-none (x ∷ []) is = omega arith
+      pairs-none (x ∷ y ∷ ms) is = absurd (omega arith)
+
+      collects : (l b : ℕ) → d .said ≡ gives l b → (room : ℕ) → pairs M ≡ room → c ≡ collectedIn s B M E room d → Kind s B M E r w e
+      collects l b q zero left is = misfits l b q (inl (pairs-none M left)) is
+      collects l b q (suc room) left is = fitting (fits (begun l b q)) refl
+        where
+          fitting : (u : Bool) → fits (begun l b q) ≡ u → Kind s B M E r w e
+          fitting true u = holding l b q (gather room (d .window) (put (begun l b q))) (is ∙ rw u refl)
+          fitting false u = misfits l b q (inr (omega (arith, leb-false (0 + d .reader .mark .count) (length E) u))) (is ∙ rw u refl)
+
+      by-said : (a : Said) → d .said ≡ a → c ≡ afterRead s B M E a d → Kind s B M E r w e
+      by-said (asks p m o) q is = asks-too p m o q is
+      by-said ends q is = ends-too q is
+      by-said (refuses n vs) q is = refuses-too n vs q is
+      by-said (gives l b) q is = collects l b q (pairs M) refl is
+
+      go : (u : Bool) → sound s (length B) (length M) ≡ u → (v : Bool) → ltb (length B) (length w) ≡ v → Kind s B M E r w e
+      go false u v x = of-state u (unsound u)
+      go true u true x = of-bytes x (short u x)
+      go true u false x = by-said (d .said) refl (reads u x)
+
   -- a refusal that is neither of the state nor of the set is the read's own
   pub refused-read : (n : ℕ) (vs : List ℕ) → c .said ≡ set.refuses n vs → eqb n 11 ≡ false → eqb n 12 ≡ false → d .said ≡ refuses n vs
-  refused-read n vs is other more = go (sound s (length B) (length M)) refl (ltb (length B) (length w)) refl
+  refused-read n vs is other more = go kind
     where
-      not-number : {A : Type 0} (m : ℕ) → set.refuses m [] ≡ set.refuses n vs → eqb n m ≡ false → A
-      not-number m e no′ = let z : m ≡ n = ap numberSaid e in absurd (false≢true (sym no′ ∙ eq-eqb n m (sym z)))
+      -- what the call says is not a refusal, or one of another number
+      not-this : {A : Type 0} (x : Called) → c ≡ x → isRefusal (x .said) ≡ false → A
+      not-this x q no′ = absurd (false≢true (sym no′ ∙ ap (λ (y : Called). isRefusal (y .said)) (sym q) ∙ ap isRefusal is))
 
-      by-said : (a : Said) → d .said ≡ a → afterRead s B M E a d .said ≡ set.refuses n vs → d .said ≡ refuses n vs
-      by-said (asks p m o) q e = absurd (false≢true (ap isRefusal e))
-      by-said ends q e = absurd (false≢true (ap isRefusal e))
-      by-said (refuses m us) q e = q ∙ (λ i. refuses (ap numberSaid e i) (ap valuesSaid e i))
-      by-said (gives l b) q e = collects (pairs M) e
-        where
-          collects : (room : ℕ) → collectedIn s B M E room d .said ≡ set.refuses n vs → d .said ≡ refuses n vs
-          collects zero e′ = not-number 12 e′ more
-          collects (suc room) e′ = fitting (fits (begun l b q)) e′
-            where
-              fitting : (u : Bool) → cond u (filledWith s B M E d (gather room (d .window) (put (begun l b q)))) (refused12 s B M E (putBackOf (d .reader)) (d .window) (d .table)) .said ≡ set.refuses n vs → d .said ≡ refuses n vs
-              fitting true e″ = absurd (false≢true (ap isRefusal e″))
-              fitting false e″ = not-number 12 e″ more
+      not-number : {A : Type 0} (m : ℕ) (x : Called) → c ≡ x → numberSaid (x .said) ≡ m → eqb n m ≡ false → A
+      not-number m x q e no′ =
+          let z : n ≡ m = ap numberSaid (sym is) ∙ ap (λ (y : Called). numberSaid (y .said)) q ∙ e in
+          absurd (false≢true (sym no′ ∙ eq-eqb n m z))
 
-      go : (u : Bool) → sound s (length B) (length M) ≡ u → (v : Bool) → ltb (length B) (length w) ≡ v → d .said ≡ refuses n vs
-      go false u v x = not-number 11 (ap (λ (o : Called). o .said) (sym (unsound u)) ∙ is) other
-      go true u true x = not-number 12 (ap (λ (o : Called). o .said) (sym (short u x)) ∙ is) more
-      go true u false x = by-said (d .said) refl (ap (λ (o : Called). o .said) (sym (reads u x)) ∙ is)
+      go : Kind s B M E r w e → d .said ≡ refuses n vs
+      go (of-state u q) = not-number 11 _ q refl other
+      go (of-bytes u q) = not-number 12 _ q refl more
+      go (asks-too p m o u q) = not-this _ q refl
+      go (ends-too u q) = not-this _ q refl
+      go (refuses-too m us u q) =
+          let same : set.refuses m us ≡ set.refuses n vs = ap (λ (x : Called). x .said) (sym q) ∙ is in
+          u ∙ (λ i. refuses (numberSaid (same i)) (valuesSaid (same i)))
+      go (misfits l b u v q) = not-number 12 _ q refl more
+      go (holding l b u g q) = not-this _ q refl
 
   -- an ask is the read's own
   pub asked-read : (p m o : ℕ) → c .said ≡ set.asks p m o → (d .said ≡ asks p m o) × (c ≡ leaves s B M E (set.asks p m o) (d .reader) (d .window) (d .table) (emptied s))
-  asked-read p m o is = go (sound s (length B) (length M)) refl (ltb (length B) (length w)) refl
+  asked-read p m o is = go kind
     where
-      other : (x : Called) → c ≡ x → isAsking (x .said) ≡ false → (d .said ≡ asks p m o) × (c ≡ leaves s B M E (set.asks p m o) (d .reader) (d .window) (d .table) (emptied s))
-      other x e no′ = absurd (false≢true (sym no′ ∙ ap (λ (y : Called). isAsking (y .said)) (sym e) ∙ ap isAsking is))
+      not-this : {A : Type 0} (x : Called) → c ≡ x → isAsking (x .said) ≡ false → A
+      not-this x q no′ = absurd (false≢true (sym no′ ∙ ap (λ (y : Called). isAsking (y .said)) (sym q) ∙ ap isAsking is))
 
-      collects : (room : ℕ) → isAsking (collectedIn s B M E room d .said) ≡ false
-      collects zero = refl
-      collects (suc room) = fitting (leb (0 + d .reader .mark .count) (length E))
-        where
-          fitting : (u : Bool)
-              → isAsking (cond u (filledWith s B M E d (gather room (d .window) (put (record { reader = d .reader; table = d .table; count = 0; used = 0; marks = M; ends = E })))) (refused12 s B M E (putBackOf (d .reader)) (d .window) (d .table)) .said) ≡ false
-          fitting true = refl
-          fitting false = refl
-
-      by-said : (a : Said) → d .said ≡ a → c ≡ afterRead s B M E a d → (d .said ≡ asks p m o) × (c ≡ leaves s B M E (set.asks p m o) (d .reader) (d .window) (d .table) (emptied s))
-      by-said (asks p′ m′ o′) q e =
-          let same : set.asks p′ m′ o′ ≡ set.asks p m o = ap (λ (x : Called). x .said) (sym e) ∙ is in
-          (q ∙ (λ i. asOf (same i)), e ∙ (λ i. leaves s B M E (same i) (d .reader) (d .window) (d .table) (emptied s)))
-      by-said ends q e = other _ e refl
-      by-said (refuses n vs) q e = other _ e refl
-      by-said (gives l b) q e = other _ e (collects (pairs M))
-
-      go : (u : Bool) → sound s (length B) (length M) ≡ u → (v : Bool) → ltb (length B) (length w) ≡ v → (d .said ≡ asks p m o) × (c ≡ leaves s B M E (set.asks p m o) (d .reader) (d .window) (d .table) (emptied s))
-      go false u v x = other _ (unsound u) refl
-      go true u true x = other _ (short u x) refl
-      go true u false x = by-said (d .said) refl (reads u x)
+      go : Kind s B M E r w e → (d .said ≡ asks p m o) × (c ≡ leaves s B M E (set.asks p m o) (d .reader) (d .window) (d .table) (emptied s))
+      go (of-state u q) = not-this _ q refl
+      go (of-bytes u q) = not-this _ q refl
+      go (asks-too p′ m′ o′ u q) =
+          let same : set.asks p′ m′ o′ ≡ set.asks p m o = ap (λ (x : Called). x .said) (sym q) ∙ is in
+          (u ∙ (λ i. asOf (same i)), q ∙ (λ i. leaves s B M E (same i) (d .reader) (d .window) (d .table) (emptied s)))
+      go (ends-too u q) = not-this _ q refl
+      go (refuses-too m us u q) = not-this _ q refl
+      go (misfits l b u v q) = not-this _ q refl
+      go (holding l b u g q) = not-this _ q refl
 
   -- what a set call does to what is due
   module _ (fresh : Fresh X C r e) where
@@ -350,31 +378,31 @@ module _ (X : List ℕ) (C : ℕ) (r : Reader) (w e : List ℕ) (t : Tells X C r
       filled room left fit =
           let k = all l b is room left fit in
           let g = k .gathers in
-            record {
-              tells = g .tells;
-              slots-are = g .slots-are ∙ step .same .slots-are;
-              rests = λ k. g .rests;
-              fresh = g .fresh;
-              goes =
-                  record {
-                    marks-are = first l b is .mark ∷ k .more;
-                    used = _;
-                    as-many = g .count-is;
-                    some-record = omega (arith, g .count-is);
-                    due-is = g .due-is;
-                    each = g .each;
-                    in-table = g .used-fits;
-                    count-is = refl;
-                    marks-fit = g .marks-fit;
-                    below = g .below;
-                    same-place = ap (λ (x : Fill). x .base .0) (g .fill-is);
-                    same-filled = ap (λ (x : Fill). x .filled) (g .fill-is);
-                    bytes-fit = omega (arith, copied-fits, length-pasted 0 copied B (omega (arith, copied-fits, copied-long)));
-                    bytes-are =
-                        ap (take (d .reader .fill .filled)) (pasted-room 0 copied B (omega (arith, copied-fits, copied-long)))
-                        ∙ take-at copied (drop (0 + length copied) B) (d .reader .fill .filled) copied-long;
-                  };
-            }
+          record {
+            tells = g .tells;
+            slots-are = g .slots-are ∙ step .same .slots-are;
+            rests = λ k. g .rests;
+            fresh = g .fresh;
+            goes =
+                record {
+                  marks-are = first l b is .mark ∷ k .more;
+                  used = _;
+                  as-many = g .count-is;
+                  some-record = omega (arith, g .count-is);
+                  due-is = g .due-is;
+                  each = g .each;
+                  in-table = g .used-fits;
+                  count-is = refl;
+                  marks-fit = g .marks-fit;
+                  below = g .below;
+                  same-place = ap (λ (x : Fill). x .base .0) (g .fill-is);
+                  same-filled = ap (λ (x : Fill). x .filled) (g .fill-is);
+                  bytes-fit = omega (arith, copied-fits, length-pasted 0 copied B (omega (arith, copied-fits, copied-long)));
+                  bytes-are =
+                      ap (take (d .reader .fill .filled)) (pasted-room 0 copied B (omega (arith, copied-fits, copied-long)))
+                      ∙ take-at copied (drop (0 + length copied) B) (d .reader .fill .filled) copied-long;
+                };
+          }
 
       collected : (room : ℕ) → pairs M ≡ room → Does (collectedIn s B M E room d)
       collected zero left = refused

@@ -115,8 +115,7 @@ back-ahead r w e g is =
     let same = put-current r (sane-true r (g .is-sane)) (ap isCurrent is) in
     let v = g .is-sane in
     let some-end = v .current-has-end (ap isCurrent is) in
-    let here : r .mark .start .0 < r .fill .filled = omega (arith, v .count-search, v .search-filled) in
-    (
+    let here : r .mark .start .0 < r .fill .filled = omega (arith, v .count-search, v .search-filled) in (
       ap (λ (o : Reader). o .phase) same,
       subst (λ (o : Reader). o .mark .start .0 < o .fill .filled) (sym same) here,
     )
