@@ -201,7 +201,7 @@ module _ (X : List ℕ) (C T : ℕ) where
     abbrev then-at : State
     then-at = afterSet t B M E s
 
-    call : Sets X C (s .reader) (dueTo X C (s .reader) (s .table)) called
+    call : Sets X C (s .reader) (dueTo X C (s .reader) (s .table)) M E called
     call = sets X C (s .reader) (s .window) (s .table) (k .tells) t B M E (k .fresh)
 
     abbrev L : List (meant.Said Rec)

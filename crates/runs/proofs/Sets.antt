@@ -171,7 +171,7 @@ module _ (X : List ℕ) (C T : ℕ) (h : List Event) (s : State) (k : Reached X 
   abbrev next : ℕ → meant.Said Rec
   next i = nth (i + answers h) (dueFrom X C T (origin h))
 
-  does : call.Sets X C r D c
+  does : call.Sets X C r D M E c
   does = sets X C r (s .window) (s .table) (k .tells) t B M E (k .fresh)
 
   holds-records : (n filled : ℕ) → Holds X C n filled D c → (i : ℕ) → i < n → IfRecord (next i) (λ (q : Rec). GivesAt q i c)
