@@ -169,6 +169,7 @@ pub record Holds (X : List ℕ) (C : ℕ) (k filled : ℕ) (D : Dues) (c : Calle
   pub below : AllBelow (c .set .base .0 + c .set .filled) marks-are
   pub same-place : c .reader .fill .base .0 ≡ c .set .base .0
   pub same-filled : c .reader .fill .filled ≡ c .set .filled
+  pub filled-is : c .set .filled ≡ filled
   pub bytes-fit : c .set .filled ≤ length (c .bytes)
   pub bytes-are : take (c .set .filled) (c .bytes) ≡ take (c .set .filled) (c .window)
 
@@ -424,6 +425,7 @@ module _ (X : List ℕ) (C : ℕ) (r : Reader) (w e : List ℕ) (t : Tells X C r
                   below = g .below;
                   same-place = ap (λ (x : Fill). x .base .0) (g .fill-is);
                   same-filled = ap (λ (x : Fill). x .filled) (g .fill-is);
+                  filled-is = refl;
                   bytes-fit = omega (arith, copied-fits, length-pasted 0 copied B (omega (arith, copied-fits, copied-long)));
                   bytes-are =
                       ap (take (d .reader .fill .filled)) (pasted-room 0 copied B (omega (arith, copied-fits, copied-long)))
