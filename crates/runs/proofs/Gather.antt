@@ -205,7 +205,8 @@ marks-long g =
     let start = g .reader .mark .start .0 in
     length-set (set (g .marks) (k + k) start) (k + k + 1) (g .used + g .reader .mark .count) ∙ length-set (g .marks) (k + k) start
 
-pub ends-long : (g : Gathered) → g .reader .mark .count ≤ length (g .table) → g .used + g .reader .mark .count ≤ length (g .ends) → length (put g .ends) ≡ length (g .ends)
+pub ends-long : (g : Gathered) → g .reader .mark .count ≤ length (g .table) → g .used + g .reader .mark .count ≤ length (g .ends)
+    → length (put g .ends) ≡ length (g .ends)
 ends-long g there fit =
     let n = g .reader .mark .count in
     length-pasted (g .used) (take n (g .table)) (g .ends) (omega (arith, length-take-le n (g .table) there))
@@ -241,7 +242,8 @@ module _ (X : List ℕ) (C : ℕ) (w : List ℕ) (f : Fill) (T line : ℕ) (D : 
       (count-is : length ms ≡ g .count) (used-is : endsBefore (g .marks) (g .count) ≡ g .used)
       (each : Each (f .base .0) line (g .marks) (g .ends) (g .used) 0 ms) (below : AllBelow (f .base .0 + f .filled) ms)
       (due-is : D ≡ recordsThen ms (meant.gives m ∷ dueTo X C (g .reader) (g .table)))
-      (has-room : g .count + g .count + (suc room + suc room) ≤ length (g .marks)) (no-more : length (g .marks) < g .count + g .count + (suc room + suc room) + 2)
+      (has-room : g .count + g .count + (suc room + suc room) ≤ length (g .marks))
+      (no-more : length (g .marks) < g .count + g .count + (suc room + suc room) + 2)
       (fit : g .used + g .reader .mark .count ≤ length (g .ends)) where
     abbrev n : ℕ
     n = g .reader .mark .count
@@ -301,10 +303,11 @@ module _ (X : List ℕ) (C : ℕ) (w : List ℕ) (f : Fill) (T line : ℕ) (D : 
   abbrev pub then′ : Gathered → Gathered
   then′ g = gatheredBy (seenIn g .reader) (seenIn g .table) g
 
-  -- what holds of a record for which the tables have no room, or that is not whole, in a window that is full or at the told end
+  -- a record's ends have no room, or it is not whole
   abbrev Past : Gathered → Mark → Type 0
   Past g m = (length (g .ends) < g .used + length (m .ends)) ⊎ Cut f m
 
+  -- why no more is put, in a window that is full or at the told end
   abbrev pub Left : Gathered → Type 0
   Left g = ready f ≡ true → Beyond (length (g .marks)) (length (g .ends)) (g .count) (g .used) f (dueTo X C (g .reader) (g .table))
 
@@ -475,7 +478,8 @@ module _ (X : List ℕ) (C : ℕ) (w : List ℕ) (f : Fill) (T line : ℕ) (D : 
     where
       go : (a : Seen) → seenIn g .seen ≡ a → All ms g (gather zero w g)
       go (whole l b) is =
-          none-fits zero g ms k l b is (gather-full w g (seenIn g .seen) (seenIn g .reader) (seenIn g .table) refl (ap isWhole is)) (left-full zero g ms k l b is refl)
+          none-fits zero g ms k l b is (gather-full w g (seenIn g .seen) (seenIn g .reader) (seenIn g .table) refl (ap isWhole is))
+          (left-full zero g ms k l b is refl)
       go unfinished is = none-whole zero g ms k unfinished is refl
       go over is = none-whole zero g ms k over is refl
       go (denied n) is = none-whole zero g ms k (denied n) is refl

@@ -218,7 +218,8 @@ module _ (X : List ℕ) (C : ℕ) (r : Reader) (w e : List ℕ) (t : Tells X C r
 
         by-stop : (o : Stop) → s .out .stop ≡ o → SeesBy X base (r .fill .filled) (next .mark .line) (byteOf next) o ms s → Does (looksBehind r w e)
         by-stop stop.Record p k = takes (q .mark) (s .ends) (looked-to stop.Record p) refl (read-step stop.Record p _ refl .goes)
-        by-stop stop.Full p k = left (looked-to stop.Full p) (still (k .still)) (if-refused (Cut (r .fill)) 4 _ due X C _ _ (read-step stop.Full p _ refl .goes))
+        by-stop stop.Full p k =
+            left (looked-to stop.Full p) (still (k .still)) (if-refused (Cut (r .fill)) 4 _ due X C _ _ (read-step stop.Full p _ refl .goes))
         by-stop stop.Filled p k = go (r .fill .told) refl (decLe (r .slots) (s .out .count))
           where
             here : looksBehind r w e ≡ lookedTo stop.Filled q (s .ends)

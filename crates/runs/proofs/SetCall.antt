@@ -259,7 +259,8 @@ module _ (X : List ℕ) (C : ℕ) (r : Reader) (w e : List ℕ) (t : Tells X C r
           (let z : d .reader .mark .line ≡ d .reader .mark .line + 0 = omega arith in z) refl refl tt tt (first .due-is)
           (omega (arith, pairs-room M, left)) (omega (arith, pairs-all M, left)) (leb-true (0 + d .reader .mark .count) (length E) fit)
 
-      all : All X C (d .window) (d .reader .fill) (d .reader .slots) (d .reader .mark .line) D (first .mark ∷ []) (put begun) (gather room (d .window) (put begun))
+      all : All X C (d .window) (d .reader .fill) (d .reader .slots) (d .reader .mark .line) D (first .mark ∷ []) (put begun)
+          (gather room (d .window) (put begun))
       all = gathers-all X C (d .window) (d .reader .fill) (d .reader .slots) (d .reader .mark .line) D room (put begun) (first .mark ∷ []) going
 
       -- in the same window

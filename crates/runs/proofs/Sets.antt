@@ -189,20 +189,25 @@ module _ (X : List ℕ) (C T : ℕ) (h : List Event) (s : State) (k : Reached X 
     closed : Closed rest
     closed = closed-due (c .reader .phase) X C (c .reader) (c .table)
 
-    -- what is due behind the first i records
-    due-behind : (i : ℕ) (a : meant.Said Rec) (d : List (meant.Said Rec)) → after i (map (saidOf X) (recordsThen (o .marks-are) rest)) ≡ a ∷ d → next i ≡ a
+    -- what is due, in the meaning's words
+    abbrev said : List (meant.Said Rec)
+    said = map (saidOf X) (recordsThen (o .marks-are) rest)
+
+    -- behind the first i records
+    due-behind : (i : ℕ) (a : meant.Said Rec) (d : List (meant.Said Rec)) → after i said ≡ a ∷ d → next i ≡ a
     due-behind i a d is =
         nth-after (i + answers h) (dueFrom X C T (origin h)) a d
         (after-add i (answers h) (dueFrom X C T (origin h)) ∙ ap (after i) (sym (k .due-is) ∙ ap (map (saidOf X)) (o .due-is)) ∙ is)
 
     -- record i of the set
     module _ (i : ℕ) (h′ : i < n) where
-      found : Number X base (c .set .line) (c .marks) (c .ends) (o .used) (base + c .set .filled) i (after i (map (saidOf X) (recordsThen (o .marks-are) rest)))
+      abbrev NumberOf : ℕ → Type 0
+      NumberOf j = Number X base (c .set .line) (c .marks) (c .ends) (o .used) (base + c .set .filled) j (after i said)
+
+      found : NumberOf i
       found =
           let z : i + 0 ≡ i = omega arith in
-          subst
-          (λ (j : ℕ). Number X base (c .set .line) (c .marks) (c .ends) (o .used) (base + c .set .filled) j (after i (map (saidOf X) (recordsThen (o .marks-are) rest))))
-          z
+          subst NumberOf z
           (number X base (c .set .line) (c .marks) (c .ends) (o .used) (base + c .set .filled) (o .marks-are) rest i 0 (omega (arith, o .as-many, h′)) closed
           (o .each) (o .below) all-fine)
 
@@ -242,15 +247,15 @@ module _ (X : List ℕ) (C T : ℕ) (h : List Event) (s : State) (k : Reached X 
     left-out : OrNone (next n) Out
     left-out = go rest refl (fine-records X (o .marks-are) rest all-fine) (o .left-out)
       where
-        said : (a : meant.Said Mark) (d : Dues) → rest ≡ a ∷ d → next n ≡ saidOf X a
-        said a d is =
+        said-next : (a : meant.Said Mark) (d : Dues) → rest ≡ a ∷ d → next n ≡ saidOf X a
+        said-next a d is =
             due-behind n (saidOf X a) (map (saidOf X) d)
-            (ap (λ (j : ℕ). after j (map (saidOf X) (recordsThen (o .marks-are) rest))) (sym (o .as-many))
+            (ap (λ (j : ℕ). after j said) (sym (o .as-many))
             ∙ after-records X (o .marks-are) rest closed
             ∙ ap (map (saidOf X)) is)
 
         by : (a : meant.Said Mark) (d : Dues) → rest ≡ a ∷ d → OrNone (saidOf X a) Out → OrNone (next n) Out
-        by a d is q = subst (λ (x : meant.Said Rec). OrNone x Out) (sym (said a d is)) q
+        by a d is q = subst (λ (x : meant.Said Rec). OrNone x Out) (sym (said-next a d is)) q
 
         go : (d : Dues) → rest ≡ d → AllFine X d → Beyond (length (c .marks)) (length (c .ends)) n (o .used) (c .reader .fill) d → OrNone (next n) Out
         go [] is f u = absurd (subst Closed is closed)
