@@ -40,7 +40,7 @@ use Rattle.runs.proofs.Look.{Sees, isUnfinished, Looks, look-steps, put
 use Rattle.runs.proofs.Begun.{at-rest}
 use Rattle.runs.proofs.Back.{Fresh, fresh-other, fresh-look, fresh-put-back}
 use Rattle.runs.proofs.SearchMarks.{ends-count}
-use Rattle.runs.proofs.Beyond.{IfDue, Cut, Beyond, if-as, if-more}
+use Rattle.runs.proofs.Beyond.{Cut, Beyond, if-as, if-more}
 use Rattle.runs.proofs.SetTable.{Each, marks′, used-then, put-each}
 
 -- ---- what is due ends with something other than a record
