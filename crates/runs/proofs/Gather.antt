@@ -1,16 +1,17 @@
 -- A set's records are the next ones that are due (01, module 6): each record that is gathered was due next, stands in the set's tables with its start and
--- its ends, and what is due then is what is left. Assumes nothing.
+-- its ends, and what is due then is what is left; the record behind the last one has no room in the tables, or is not whole in the window. Assumes nothing.
 use Prim.Native.Nat.{ℕ, zero, suc, _+_, _-_, _≤_, _<_}
 use native.Mathlib.Omega.{arith}
 use mathlib.Core.Bool.{Bool, true, false, cond, _&&_, false≢true}
 use mathlib.Core.List.{List, [], _∷_, _++_, map, append-nil, append-assoc}
+use mathlib.Core.Logic.{_⊎_, inl, inr}
 use mathlib.Core.Option.{Option, none, some}
 use mathlib.Core.Path.{_≡_, refl, sym, ap, subst, _∙_}
 use native.Mathlib.Decide.{decLe}
 use lib.ListN.{length, take, drop, set, length-append, length-set}
 use lib.Seq.{length-take-le}
 use lib.Dec.{eqb, leb}
-use borrow.Author.Tests.{eqb-true, leb-true}
+use borrow.Author.Tests.{eqb-true, leb-true, leb-false}
 use Rattle.meaning.specs.Due as meant
 use Rattle.meaning.specs.Due.{dueBy}
 use Rattle.meaning.specs.OnePass.{Mark, Marked, good, bad, marks, leadMarks, judgedMark, placeMark, dueMarks}
@@ -35,9 +36,11 @@ use Rattle.set.specs.Set.{endsBefore}
 use Rattle.set.specs.Read.{Gathered, gatheredBy, fits, put, back, isWhole, gather}
 use Rattle.set.proofs.Gathering.{gather-stops, gather-full, gather-misfit, gather-on}
 use Rattle.runs.proofs.Tells.{Dues, judge, unlessOver, atSought, fromHere, endsOf, dueSearched, dueIn, dueTo, later, isWindow, isTable, Rests, Tells, Holds, Says, Answers, Same}
-use Rattle.runs.proofs.Look.{Sees, Looks, look-steps, put-back-tells, put-back-same, look-put-back}
+use Rattle.runs.proofs.Look.{Sees, isUnfinished, Looks, look-steps, put-back-tells, put-back-same, look-put-back}
 use Rattle.runs.proofs.Begun.{at-rest}
 use Rattle.runs.proofs.Back.{Fresh, fresh-other, fresh-look, fresh-put-back}
+use Rattle.runs.proofs.SearchMarks.{ends-count}
+use Rattle.runs.proofs.Beyond.{Cut, Beyond, if-as, if-more}
 use Rattle.runs.proofs.SetTable.{Each, marks′, used-then, put-each}
 
 -- ---- what is due ends with something other than a record
@@ -195,6 +198,19 @@ then-more : (ms : List Mark) (m : Mark) (d : Dues) → recordsThen (ms ++ (m ∷
 then-more [] m d = refl
 then-more (x ∷ ms) m d = ap (λ (l : Dues). meant.gives x ∷ l) (then-more ms m d)
 
+-- the tables are as long as they were before a record was put
+pub marks-long : (g : Gathered) → length (put g .marks) ≡ length (g .marks)
+marks-long g =
+    let k = g .count in
+    let start = g .reader .mark .start .0 in
+    length-set (set (g .marks) (k + k) start) (k + k + 1) (g .used + g .reader .mark .count) ∙ length-set (g .marks) (k + k) start
+
+pub ends-long : (g : Gathered) → g .reader .mark .count ≤ length (g .table) → g .used + g .reader .mark .count ≤ length (g .ends)
+    → length (put g .ends) ≡ length (g .ends)
+ends-long g there fit =
+    let n = g .reader .mark .count in
+    length-pasted (g .used) (take n (g .table)) (g .ends) (omega (arith, length-take-le n (g .table) there))
+
 module _ (X : List ℕ) (C : ℕ) (w : List ℕ) (f : Fill) (T line : ℕ) (D : Dues) where
   -- What is gathered: the marks ms of the set's records, which were due first, and the rest is due to the reader, in the same window.
   pub record Gathers (g : Gathered) (ms : List Mark) : Type 0 where
@@ -211,12 +227,13 @@ module _ (X : List ℕ) (C : ℕ) (w : List ℕ) (f : Fill) (T line : ℕ) (D : 
     pub rests : Rests (g .reader)
     pub fresh : Fresh X C (g .reader) (g .table)
 
-  -- a reader on its way: its record is current, the last one put, and there is room for so many more
+  -- a reader on its way: its record is current, the last one put, and there is room for exactly so many more
   pub record Going (room : ℕ) (g : Gathered) (ms : List Mark) : Type 0 where
     pub gathers : Gathers g ms
     pub is-current : g .reader .phase ≡ phase.Current
     pub next-line : g .reader .mark .line + g .reader .mark .count ≡ line + g .used
     pub has-room : g .count + g .count + (room + room) ≤ length (g .marks)
+    pub no-more : length (g .marks) < g .count + g .count + (room + room) + 2
 
   -- a record that was due next, and is current, is put into the set
   module _ (room : ℕ) (g : Gathered) (ms : List Mark) (m : Mark) (k : Holds m (g .reader) (g .table))
@@ -225,15 +242,20 @@ module _ (X : List ℕ) (C : ℕ) (w : List ℕ) (f : Fill) (T line : ℕ) (D : 
       (count-is : length ms ≡ g .count) (used-is : endsBefore (g .marks) (g .count) ≡ g .used)
       (each : Each (f .base .0) line (g .marks) (g .ends) (g .used) 0 ms) (below : AllBelow (f .base .0 + f .filled) ms)
       (due-is : D ≡ recordsThen ms (meant.gives m ∷ dueTo X C (g .reader) (g .table)))
-      (has-room : g .count + g .count + (suc room + suc room) ≤ length (g .marks)) (fit : g .used + g .reader .mark .count ≤ length (g .ends)) where
+      (has-room : g .count + g .count + (suc room + suc room) ≤ length (g .marks))
+      (no-more : length (g .marks) < g .count + g .count + (suc room + suc room) + 2)
+      (fit : g .used + g .reader .mark .count ≤ length (g .ends)) where
     abbrev n : ℕ
     n = g .reader .mark .count
 
     abbrev src : List ℕ
     src = take n (g .table)
 
+    there : n ≤ length (g .table)
+    there = omega (arith, t .is-good .is-sane .count-slots, t .is-good .table-lent)
+
     long : length src ≡ n
-    long = length-take-le n (g .table) (omega (arith, t .is-good .is-sane .count-slots, t .is-good .table-lent))
+    long = length-take-le n (g .table) there
 
     some-end : 0 < n
     some-end = t .is-good .is-sane .current-has-end (ap isCurrent (k .is-current))
@@ -257,30 +279,21 @@ module _ (X : List ℕ) (C : ℕ) (w : List ℕ) (f : Fill) (T line : ℕ) (D : 
                 slots-are = slots-are;
                 count-is = length-append ms (m ∷ []) ∙ (let z : length ms + 1 ≡ suc (g .count) = omega arith in z);
                 used-is = used-then (f .base .0) line (g .marks) (g .ends) (g .used) (g .count) (g .reader .mark .start .0) n src long fit free used-is;
-                used-fits = omega (arith, length-pasted (g .used) src (g .ends) (omega (arith, long)));
+                used-fits = omega (arith, ends-long g there fit);
                 each = table;
                 below =
                     below-more (f .base .0 + f .filled) ms m below
                     (omega
                     (arith, k .byte-is, k .len-is, base-is, ap (λ (x : Fill). x .filled) fill-is, t .is-good .is-sane .search-filled, t .is-good .is-sane .start-search));
-                marks-fit =
-                    omega (
-                      arith,
-                      length-set (set (g .marks) (g .count + g .count) (g .reader .mark .start .0)) (g .count + g .count + 1) (g .used + n),
-                      length-set (g .marks) (g .count + g .count) (g .reader .mark .start .0),
-                    );
+                marks-fit = omega (arith, marks-long g);
                 due-is = due-is ∙ sym (then-more ms m (dueTo X C (g .reader) (g .table)));
                 rests = at-rest (g .reader) (ap isWindow (k .is-current)) (ap isTable (k .is-current));
                 fresh = fresh-other X C (g .reader) (g .table) (ap isSearching (k .is-current));
               };
           is-current = k .is-current;
           next-line = omega arith;
-          has-room =
-              omega (
-                arith,
-                length-set (set (g .marks) (g .count + g .count) (g .reader .mark .start .0)) (g .count + g .count + 1) (g .used + n),
-                length-set (g .marks) (g .count + g .count) (g .reader .mark .start .0),
-              );
+          has-room = omega (arith, marks-long g);
+          no-more = omega (arith, marks-long g);
         }
 
   -- what a look sees
@@ -289,6 +302,14 @@ module _ (X : List ℕ) (C : ℕ) (w : List ℕ) (f : Fill) (T line : ℕ) (D : 
 
   abbrev pub then′ : Gathered → Gathered
   then′ g = gatheredBy (seenIn g .reader) (seenIn g .table) g
+
+  -- a record's ends have no room, or it is not whole
+  abbrev Past : Gathered → Mark → Type 0
+  Past g m = (length (g .ends) < g .used + length (m .ends)) ⊎ Cut f m
+
+  -- why no more is put, in a window that is full or at the told end
+  abbrev pub Left : Gathered → Type 0
+  Left g = ready f ≡ true → Beyond (length (g .marks)) (length (g .ends)) (g .count) (g .used) f (dueTo X C (g .reader) (g .table))
 
   -- by what a look sees
   module _ (room : ℕ) (g : Gathered) (ms : List Mark) (k : Going room g ms) where
@@ -321,9 +342,8 @@ module _ (X : List ℕ) (C : ℕ) (w : List ℕ) (f : Fill) (T line : ℕ) (D : 
         }
 
     -- nothing more is whole
-    stops : isWhole (seenIn g .seen) ≡ false → Gathers (then′ g) ms
-    stops no′ = stays (seenIn g .reader) (seenIn g .table) (step .tells) (next .fill-same) (next .slots-same) (go (seenIn g .seen) (step .sees) no′)
-        (at-rest (seenIn g .reader) (next .not-refused .0) (next .not-refused .1)) (fresh-look X C r w (g .table) (k .gathers .tells) (k .is-current))
+    due-still : isWhole (seenIn g .seen) ≡ false → dueTo X C (seenIn g .reader) (seenIn g .table) ≡ dueTo X C r (g .table)
+    due-still no′ = go (seenIn g .seen) (step .sees) no′
       where
         go : (a : Seen) → Sees a (dueTo X C r (g .table)) X C (seenIn g .reader) (seenIn g .table) → isWhole a ≡ false
             → dueTo X C (seenIn g .reader) (seenIn g .table) ≡ dueTo X C r (g .table)
@@ -332,12 +352,50 @@ module _ (X : List ℕ) (C : ℕ) (w : List ℕ) (f : Fill) (T line : ℕ) (D : 
         go over u n′ = u .1 .0 ∙ sym (u .0)
         go (denied i) u n′ = absurd u
 
+    stops : isWhole (seenIn g .seen) ≡ false → Gathers (then′ g) ms
+    stops no′ =
+        stays (seenIn g .reader) (seenIn g .table) (step .tells) (next .fill-same) (next .slots-same) (due-still no′)
+        (at-rest (seenIn g .reader) (next .not-refused .0) (next .not-refused .1)) (fresh-look X C r w (g .table) (k .gathers .tells) (k .is-current))
+
+    -- what is due then, if a record, is not whole in the window
+    left-cut : (a : Seen) → seenIn g .seen ≡ a → isWhole a ≡ false → Left (then′ g)
+    left-cut (whole l b) is no′ full = absurd (false≢true (sym no′))
+    left-cut unfinished is no′ full =
+        let same : r .fill ≡ f = k .gathers .fill-is in
+        let cut = step .is-cut (ap isUnfinished is) (ap ready same ∙ full) in
+        inr
+        (if-as (Past g) (due-still (ap isWhole is))
+        (if-more (Cut (r .fill)) (Past g) (λ m c. inr (subst (λ (x : Fill). Cut x m) same c)) (dueTo X C r (g .table)) cut))
+    left-cut over is no′ full =
+        inr (if-as (Past g) (subst (λ (a : Seen). Sees a (dueTo X C r (g .table)) X C (seenIn g .reader) (seenIn g .table)) is (step .sees) .1 .0) tt)
+    left-cut (denied n) is no′ full =
+        absurd (subst (λ (a : Seen). Sees a (dueTo X C r (g .table)) X C (seenIn g .reader) (seenIn g .table)) is (step .sees))
+
     -- a whole record
     module _ (l b : ℕ) (is : seenIn g .seen ≡ whole l b) where
       pub seen : Given X C l b (dueTo X C r (g .table)) (seenIn g .reader) (seenIn g .table)
       seen =
           given X C l b (dueTo X C r (g .table)) (seenIn g .reader) (seenIn g .table) (closed-due (r .phase) X C r (g .table))
           (subst (λ (a : Seen). Sees a (dueTo X C r (g .table)) X C (seenIn g .reader) (seenIn g .table)) is (step .sees) .0)
+
+      in-slots : seenIn g .reader .mark .count ≤ length (seenIn g .table)
+      in-slots = omega (arith, step .tells .is-good .is-sane .count-slots, step .tells .is-good .table-lent)
+
+      -- it has as many ends as the reader counted
+      many : length (seen .mark .ends) ≡ seenIn g .reader .mark .count
+      many =
+          ap length (seen .holds .ends-are)
+          ∙ ends-count (seenIn g .reader .fill .base .0) (seenIn g .reader .mark .count) (seenIn g .table) in-slots
+
+      -- it has no room in the table of marks, or its ends have none in theirs
+      left-full : room ≡ 0 → Left (back (then′ g))
+      left-full none′ full = inl (omega (arith, k .no-more))
+
+      left-misfit : fits (then′ g) ≡ false → Left (back (then′ g))
+      left-misfit misfit full =
+          inr
+          (if-as (Past g) (look-put-back X C r w (g .table) (k .gathers .tells) (k .is-current) l b is ∙ seen .due-is)
+          (inl (omega (arith, many, leb-false (g .used + seenIn g .reader .mark .count) (length (g .ends)) misfit))))
 
       backs : Gathers (back (then′ g)) ms
       backs =
@@ -351,46 +409,91 @@ module _ (X : List ℕ) (C : ℕ) (w : List ℕ) (f : Fill) (T line : ℕ) (D : 
           (at-rest (putBackOf x) (ap (λ (o : Reader). isWindow (o .phase)) same) (ap (λ (o : Reader). isTable (o .phase)) same))
           (fresh-put-back X C x w e (step .tells) at)
 
+      long-still : fits (then′ g) ≡ true → length (put (then′ g) .ends) ≡ length (g .ends)
+      long-still fit = ends-long (then′ g) in-slots (leb-true (g .used + seenIn g .reader .mark .count) (length (g .ends)) fit)
+
       pub more : (j : ℕ) → room ≡ suc j → fits (then′ g) ≡ true → Going j (put (then′ g)) (ms ++ (seen .mark ∷ []))
       more j left fit =
           puts j (then′ g) ms (seen .mark) (seen .holds) (step .tells) (next .fill-same ∙ k .gathers .fill-is) (next .slots-same ∙ k .gathers .slots-are)
           (next .next-line (ap isWhole is) ∙ k .next-line) (k .gathers .count-is) (k .gathers .used-is) (k .gathers .each) (k .gathers .below)
           (k .gathers .due-is ∙ ap (recordsThen ms) (seen .due-is))
           (subst (λ (i : ℕ). g .count + g .count + (i + i) ≤ length (g .marks)) left (k .has-room))
+          (subst (λ (i : ℕ). length (g .marks) < g .count + g .count + (i + i) + 2) left (k .no-more))
           (leb-true (g .used + seenIn g .reader .mark .count) (length (g .ends)) fit)
 
-  -- what is gathered in all
-  pub record All (ms : List Mark) (g : Gathered) : Type 0 where
+  -- what is gathered in all, from g on, in tables as long as they were
+  pub record All (ms : List Mark) (g h : Gathered) : Type 0 where
     pub more : List Mark
-    pub gathers : Gathers g (ms ++ more)
+    pub gathers : Gathers h (ms ++ more)
+    pub left : Left h
+    pub marks-same : length (h .marks) ≡ length (g .marks)
+    pub ends-same : length (h .ends) ≡ length (g .ends)
 
-  none-more : (ms : List Mark) (g : Gathered) → Gathers g ms → All ms g
-  none-more ms g k = record { more = []; gathers = subst (Gathers g) (sym (append-nil ms)) k }
+  module _ (room : ℕ) (g : Gathered) (ms : List Mark) (k : Going room g ms) where
+    -- no whole record is there
+    none-whole : (a : Seen) → seenIn g .seen ≡ a → isWhole a ≡ false → All ms g (gather room w g)
+    none-whole a is no′ =
+        let same : isWhole (seenIn g .seen) ≡ false = ap isWhole is ∙ no′ in
+        subst (All ms g) (sym (gather-stops w g (seenIn g .seen) (seenIn g .reader) (seenIn g .table) refl room same))
+        (record {
+          more = [];
+          gathers = subst (Gathers (then′ g)) (sym (append-nil ms)) (stops room g ms k same);
+          left = left-cut room g ms k a is no′;
+          marks-same = refl;
+          ends-same = refl;
+        })
 
-  pub gathers-all : (room : ℕ) (g : Gathered) (ms : List Mark) → Going room g ms → All ms (gather room w g)
+    -- one is, for which there is no room
+    none-fits : (l b : ℕ) → seenIn g .seen ≡ whole l b → gather room w g ≡ back (then′ g) → Left (back (then′ g)) → All ms g (gather room w g)
+    none-fits l b is at left =
+        subst (All ms g) (sym at)
+        (record {
+          more = [];
+          gathers = subst (Gathers (back (then′ g))) (sym (append-nil ms)) (backs room g ms k l b is);
+          left = left;
+          marks-same = refl;
+          ends-same = refl;
+        })
+
+  -- one is put, and those behind it
+  one-more : (room : ℕ) (g : Gathered) (ms : List Mark) (k : Going (suc room) g ms) (l b : ℕ) (is : seenIn g .seen ≡ whole l b) → fits (then′ g) ≡ true
+      → All (ms ++ (seen (suc room) g ms k l b is .mark ∷ [])) (put (then′ g)) (gather room w (put (then′ g))) → All ms g (gather (suc room) w g)
+  one-more room g ms k l b is fit rest =
+      let m = seen (suc room) g ms k l b is .mark in
+      let less : suc room - 1 ≡ room = omega arith in
+      subst (All ms g)
+      (sym
+      (gather-on w g (seenIn g .seen) (seenIn g .reader) (seenIn g .table) refl (ap isWhole is) (suc room) (λ z. omega arith) fit
+      ∙ ap (λ (i : ℕ). gather i w (put (then′ g))) less))
+      (record {
+        more = m ∷ rest .more;
+        gathers = subst (Gathers (gather room w (put (then′ g)))) (append-assoc ms (m ∷ []) (rest .more)) (rest .gathers);
+        left = rest .left;
+        marks-same = rest .marks-same ∙ marks-long (then′ g);
+        ends-same = rest .ends-same ∙ long-still (suc room) g ms k l b is fit;
+      })
+
+  pub gathers-all : (room : ℕ) (g : Gathered) (ms : List Mark) → Going room g ms → All ms g (gather room w g)
   gathers-all zero g ms k = go (seenIn g .seen) refl
     where
-      go : (a : Seen) → seenIn g .seen ≡ a → All ms (gather zero w g)
-      go (whole l b) is = subst (All ms) (sym (gather-full w g (seenIn g .seen) (seenIn g .reader) (seenIn g .table) refl (ap isWhole is))) (none-more ms (back (then′ g)) (backs zero g ms k l b is))
-      go unfinished is = subst (All ms) (sym (gather-stops w g (seenIn g .seen) (seenIn g .reader) (seenIn g .table) refl zero (ap isWhole is))) (none-more ms (then′ g) (stops zero g ms k (ap isWhole is)))
-      go over is = subst (All ms) (sym (gather-stops w g (seenIn g .seen) (seenIn g .reader) (seenIn g .table) refl zero (ap isWhole is))) (none-more ms (then′ g) (stops zero g ms k (ap isWhole is)))
-      go (denied n) is = subst (All ms) (sym (gather-stops w g (seenIn g .seen) (seenIn g .reader) (seenIn g .table) refl zero (ap isWhole is))) (none-more ms (then′ g) (stops zero g ms k (ap isWhole is)))
+      go : (a : Seen) → seenIn g .seen ≡ a → All ms g (gather zero w g)
+      go (whole l b) is =
+          none-fits zero g ms k l b is (gather-full w g (seenIn g .seen) (seenIn g .reader) (seenIn g .table) refl (ap isWhole is))
+          (left-full zero g ms k l b is refl)
+      go unfinished is = none-whole zero g ms k unfinished is refl
+      go over is = none-whole zero g ms k over is refl
+      go (denied n) is = none-whole zero g ms k (denied n) is refl
   gathers-all (suc room) g ms k = go (seenIn g .seen) refl (fits (then′ g)) refl (λ h ns j. gathers-all room h ns j)
     where
       go :
-          (a : Seen) → seenIn g .seen ≡ a → (t : Bool) → fits (then′ g) ≡ t → ((h : Gathered) (ns : List Mark) → Going room h ns → All ns (gather room w h)) →
-          All ms (gather (suc room) w g)
+          (a : Seen) → seenIn g .seen ≡ a → (t : Bool) → fits (then′ g) ≡ t → ((h : Gathered) (ns : List Mark) → Going room h ns → All ns h (gather room w h)) →
+          All ms g (gather (suc room) w g)
       go (whole l b) is true fit on =
           let m = seen (suc room) g ms k l b is .mark in
-          let less : suc room - 1 ≡ room = omega arith in
-          let rest = on (put (then′ g)) (ms ++ (m ∷ [])) (more (suc room) g ms k l b is room refl fit) in
-          subst (All ms) (sym (gather-on w g (seenIn g .seen) (seenIn g .reader) (seenIn g .table) refl (ap isWhole is) (suc room) (λ z. omega arith) fit ∙ ap (λ (i : ℕ). gather i w (put (then′ g))) less))
-          (record { more = m ∷ rest .more; gathers = subst (Gathers (gather room w (put (then′ g)))) (append-assoc ms (m ∷ []) (rest .more)) (rest .gathers) })
+          one-more room g ms k l b is fit (on (put (then′ g)) (ms ++ (m ∷ [])) (more (suc room) g ms k l b is room refl fit))
       go (whole l b) is false fit on =
-          subst (All ms) (sym (gather-misfit w g (seenIn g .seen) (seenIn g .reader) (seenIn g .table) refl (ap isWhole is) (suc room) fit)) (none-more ms (back (then′ g)) (backs (suc room) g ms k l b is))
-      go unfinished is t fit on =
-          subst (All ms) (sym (gather-stops w g (seenIn g .seen) (seenIn g .reader) (seenIn g .table) refl (suc room) (ap isWhole is))) (none-more ms (then′ g) (stops (suc room) g ms k (ap isWhole is)))
-      go over is t fit on =
-          subst (All ms) (sym (gather-stops w g (seenIn g .seen) (seenIn g .reader) (seenIn g .table) refl (suc room) (ap isWhole is))) (none-more ms (then′ g) (stops (suc room) g ms k (ap isWhole is)))
-      go (denied n) is t fit on =
-          subst (All ms) (sym (gather-stops w g (seenIn g .seen) (seenIn g .reader) (seenIn g .table) refl (suc room) (ap isWhole is))) (none-more ms (then′ g) (stops (suc room) g ms k (ap isWhole is)))
+          none-fits (suc room) g ms k l b is (gather-misfit w g (seenIn g .seen) (seenIn g .reader) (seenIn g .table) refl (ap isWhole is) (suc room) fit)
+          (left-misfit (suc room) g ms k l b is fit)
+      go unfinished is t fit on = none-whole (suc room) g ms k unfinished is refl
+      go over is t fit on = none-whole (suc room) g ms k over is refl
+      go (denied n) is t fit on = none-whole (suc room) g ms k (denied n) is refl

@@ -219,6 +219,7 @@ module _ (X : List ℕ) (C : ℕ) (r : Reader) (w e : List ℕ) (t : Tells X C r
       -- a record is due first, and is given
       gives-first :
           (m : Mark) (rest : List Mark) (search count : ℕ) (e′ : List ℕ) →
+          ready (r .fill) ≡ true →
           ms ≡ m ∷ rest →
           judgedMark C (r .slots) m ≡ none →
           m .line ≡ r .mark .line →
@@ -227,9 +228,9 @@ module _ (X : List ℕ) (C : ℕ) (r : Reader) (w e : List ℕ) (t : Tells X C r
           m .ends ≡ endsIn base count e′ →
           dueIn phase.Current X C (reached search count r) e′ ≡ judge C (r .slots) rest →
           Step X C r due (given (reached search count r) w e′)
-      gives-first m rest search count e′ are judged line byte len es then′ =
+      gives-first m rest search count e′ full are judged line byte len es then′ =
           step-rests X C r w e t (gives (r .mark .line) (byteOf r)) (markAt start search count (r .mark .line)) phase.Current e′ due refl
-          (at-rest (inPhase phase.Current (reached search count r)) refl refl) tt
+          (at-rest (inPhase phase.Current (reached search count r)) refl refl) full
           (answers (meant.gives m) (judge C (r .slots) rest)
           (due-is ∙ ap (judge C (r .slots)) are ∙ due-gives (judgedMark C (r .slots)) placeMark m rest judged)
           (sym line, (sym byte, record { is-current = refl; line-is = line; byte-is = byte; len-is = len; ends-are = es }))
@@ -268,15 +269,16 @@ module _ (X : List ℕ) (C : ℕ) (r : Reader) (w e : List ℕ) (t : Tells X C r
 
       -- at a mark
       at-mark :
+          ready (r .fill) ≡ true →
           SeesAs stop.Record ms s →
           s .out .at < top →
           Step X C r due (given q w (s .ends))
-      at-mark k inside =
+      at-mark full k inside =
           let n = s .out .count in
           let len : base + s .out .at - byteOf r + 1 ≤ C = omega (arith, fits) in
           let few : length (endsIn base n (s .ends)) ≤ r .slots = omega (arith, ends-count base n (s .ends) (omega (arith, f .limited, slots)), f .limited) in
           let m : Mark = record { line = r .mark .line; byte = byteOf r; len = base + s .out .at - byteOf r; ends = endsIn base n (s .ends) } in
-          gives-first m _ (s .out .at) n (s .ends) (k .are) (judged-none C (r .slots) m few len) refl refl (omega arith) refl
+          gives-first m _ (s .out .at) n (s .ends) full (k .are) (judged-none C (r .slots) m few len) refl refl (omega arith) refl
           (some-left X C (r .slots) (r .mark .line + n) (base + s .out .at) (suc (base + s .out .at)) [] 62 _ (k .stands))
 
       -- at an end without a slot
@@ -294,7 +296,7 @@ module _ (X : List ℕ) (C : ℕ) (r : Reader) (w e : List ℕ) (t : Tells X C r
           (record { at-front = λ z. absurd (false≢true z); all-slots = λ z. none′ }) refl refl refl
 
       -- at the end of the filled bytes, where the input has ended: the record ends there
-      module _ (k : SeesAs stop.Filled ms s) (inside : start < top) (told : Told X r) where
+      module _ (full : ready (r .fill) ≡ true) (k : SeesAs stop.Filled ms s) (inside : start < top) (told : Told X r) where
         abbrev final : Mark
         final =
             record {
@@ -329,7 +331,7 @@ module _ (X : List ℕ) (C : ℕ) (r : Reader) (w e : List ℕ) (t : Tells X C r
                 (record { at-front = λ z. absurd (false≢true z); all-slots = λ z. omega (arith, f .limited) }) refl refl refl)
             go (no u) =
                 step-as refl (closed-more q w (s .ends) (s .out .at) (omega arith))
-                (gives-first final [] top (s .out .count + 1) (set (s .ends) (s .out .count) (s .out .at)) finals
+                (gives-first final [] top (s .out .count + 1) (set (s .ends) (s .out .count) (s .out .at)) full finals
                 (judged-none C (r .slots) final (omega (arith, final-count)) final-fits) refl refl (omega arith)
                 (sym (ends-more base (s .out .count) (s .ends) (s .out .at) (omega (arith, slots)))
                 ∙ ap (λ (n : ℕ). endsIn base n (set (s .ends) (s .out .count) (s .out .at))) (sym (add-one (s .out .count))))
@@ -376,12 +378,12 @@ module _ (X : List ℕ) (C : ℕ) (r : Reader) (w e : List ℕ) (t : Tells X C r
           SeesAs o ms s →
           Stopped (take top w) (r .mark .count) (r .slots) 62 (s .out) (s .ends) o →
           Step X C r due (stopped o q w (s .ends))
-      steps inside is full hi rise stop.Record k a = at-mark k (omega (arith, a .inside, bytes))
+      steps inside is full hi rise stop.Record k a = at-mark full k (omega (arith, a .inside, bytes))
       steps inside is full hi rise stop.Full k a = at-full k a
       steps inside is full hi rise stop.Filled k a = go (r .fill .told) refl
         where
           go : (u : Bool) → r .fill .told ≡ u → Step X C r due (stopped stop.Filled q w (s .ends))
-          go true u = step-as refl (filled-told q w (s .ends) u) (at-end k inside (t .told u))
+          go true u = step-as refl (filled-told q w (s .ends) u) (at-end full k inside (t .told u))
           go false u = step-as refl (filled-not q w (s .ends) u) (at-full-window k inside is u (ready-full (r .fill) full u) hi rise)
 
   -- what one pass finds where a record that stands in the window is searched, and what is due by it

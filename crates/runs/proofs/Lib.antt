@@ -8,6 +8,7 @@ pub mod LeadBytes
 pub mod Lead
 pub mod Sought
 pub mod Step
+pub mod Beyond
 pub mod Look
 pub mod Calls
 pub mod Back

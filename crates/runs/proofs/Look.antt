@@ -1,5 +1,6 @@
 -- One look, and a record put back (01, module 6: "every record from the current place that is whole in the window ... and meets no refusal";
--- "the rest is read next"): a record that is seen whole is due next, and nothing that is due is lost. Assumes nothing.
+-- "the rest is read next"): a record that is seen whole is due next, one that is not is not whole in the window, and nothing that is due is lost.
+-- Assumes nothing.
 use Prim.Native.Nat.{ℕ, suc, _+_, _≤_, _<_}
 use native.Mathlib.Decide.{decLe}
 use native.Mathlib.Omega.{arith}
@@ -23,13 +24,14 @@ use Rattle.reader.specs.State.{Good, byteOf, sane, isCurrent, withMark, inPhase
 use Rattle.reader.specs.Read.{gives, Did, reached, stopped, searches, hunted, passed}
 use Rattle.reader.specs.Look.{Seen, whole, unfinished, over, denied, Looked, sees, lookedAt, leftAhead, lookedTo, looksBehind, lookOf, putBackOf}
 use Rattle.reader.proofs.Sanity.{and-true, sane-true}
-use Rattle.reader.proofs.ReadLaws.{closed-more, hunt-goes, filled-told, passed-good, lent-true}
+use Rattle.reader.proofs.ReadLaws.{closed-full, closed-more, hunt-goes, filled-told, passed-good, lent-true}
 use Rattle.reader.proofs.LookLaws.{shut-full, shut-more, to-told, to-not, on-found, look-over, look-waits, look-goes, look-behind, put-current}
 use Rattle.reader.proofs.Kept.{Behind, goesOn, Kept, not-over, begun-behind, finds, found-behind}
 use Rattle.reader.proofs.LookKept.{kept-look, kept-put-back}
-use Rattle.runs.proofs.Tells.{Dues, fromHere, dueSearched, dueIn, dueTo, Tells, Says, Answers, Same, Step}
+use Rattle.runs.proofs.Tells.{Dues, judge, fromHere, dueSearched, dueIn, dueTo, Tells, Says, Answers, Same, Step}
+use Rattle.runs.proofs.Beyond.{IfDue, Cut, if-as, if-refused, if-passed, if-here}
 use Rattle.runs.proofs.Begun.{at-end, begun-due, begun-tells, tells-with}
-use Rattle.runs.proofs.SearchMarks.{foundAt, SeesBy}
+use Rattle.runs.proofs.SearchMarks.{foundAt, endsIn, SeesBy}
 use Rattle.runs.proofs.Hunt.{none-left, still-due, sees-found, inside-due, outside-found, outside-due, hunts}
 
 -- what is due from the `>` of a reader's record on
@@ -44,11 +46,18 @@ Sees unfinished d X C r e = (dueTo X C r e ≡ d) × (d ≡ fromStart X C r)
 Sees over d X C r e = (d ≡ meant.ends ∷ []) × ((dueTo X C r e ≡ meant.ends ∷ []) × (r .phase ≡ phase.Over))
 Sees (denied n) d X C r e = ⊥
 
--- the relation holds again over the same window, and its end is the same
+abbrev pub isUnfinished : Seen → Bool
+isUnfinished (whole l b) = false
+isUnfinished unfinished = true
+isUnfinished over = false
+isUnfinished (denied n) = false
+
+-- the relation holds again over the same window, and its end is the same; a record that is left is not whole there
 pub record Looks (X : List ℕ) (C : ℕ) (r : Reader) (w : List ℕ) (d : Dues) (l : Looked) : Type 0 where
   pub tells : Tells X C (l .reader) w (l .table)
   pub sees : Sees (l .seen) d X C (l .reader) (l .table)
   pub same : Same r (l .reader)
+  pub is-cut : isUnfinished (l .seen) ≡ true → ready (r .fill) ≡ true → IfDue d (Cut (r .fill))
 
 -- a record that is given is current
 pub current-of : (l b : ℕ) (r : Reader) (e : List ℕ) (a : meant.Said pass.Mark) → Says (gives l b) a r e → r .phase ≡ phase.Current
@@ -98,13 +107,15 @@ module _ (X : List ℕ) (C : ℕ) (r : Reader) (w e : List ℕ) (t : Tells X C r
       due ≡ fromStart X C (withMark m r) →
       Behind true m e′ →
       dueSearched X C (withMark m r) e′ ≡ due →
+      (ready (r .fill) ≡ true → IfDue due (Cut (r .fill))) →
       Does (looksBehind r w e)
-  leaves m e′ q from b same =
+  leaves m e′ q from b same cut =
       as-looked q
       (record {
         tells = tells-with X C r w e t m phase.Ahead e′ refl (good _ q) (λ s. b);
         sees = (same, from);
         same = record { reaches = refl; end-told = refl; slots-are = refl; lent-is = refl };
+        is-cut = λ u. cut;
       })
 
   -- a record is whole: it is due first
@@ -120,6 +131,7 @@ module _ (X : List ℕ) (C : ℕ) (r : Reader) (w e : List ℕ) (t : Tells X C r
         tells = tells-with X C r w e t m phase.Current e′ refl (good _ q) (λ s. absurd (false≢true s));
         sees = (k, from);
         same = record { reaches = refl; end-told = refl; slots-are = refl; lent-is = refl };
+        is-cut = λ u. absurd (false≢true u);
       })
 
   -- the end, behind the last record
@@ -133,6 +145,7 @@ module _ (X : List ℕ) (C : ℕ) (r : Reader) (w e : List ℕ) (t : Tells X C r
         tells = tells-with X C r w e t (r .mark) phase.Over e refl (good _ q) (λ s. absurd (false≢true s));
         sees = (none-left X C (r .slots) (r .mark .line + r .mark .count) b (suc b) [] all, (refl, refl));
         same = record { reaches = refl; end-told = refl; slots-are = refl; lent-is = refl };
+        is-cut = λ u. absurd (false≢true u);
       })
 
   -- behind the current record
@@ -144,7 +157,7 @@ module _ (X : List ℕ) (C : ℕ) (r : Reader) (w e : List ℕ) (t : Tells X C r
     none-yet = begun-behind next w e refl
 
     waits : ready (r .fill) ≡ false → Does (looksBehind r w e)
-    waits u = leaves (next .mark) e (look-waits r w e more u) refl none-yet due-next
+    waits u = leaves (next .mark) e (look-waits r w e more u) refl none-yet due-next (λ full. absurd (false≢true (sym u ∙ full)))
 
     -- the next record is searched
     module _ (full : ready (r .fill) ≡ true) where
@@ -168,8 +181,8 @@ module _ (X : List ℕ) (C : ℕ) (r : Reader) (w e : List ℕ) (t : Tells X C r
           (subst (λ (x : Dues). Step X C next x (hunted next w e)) due-next (hunts X C next w e tells-next refl full))
 
       -- a search that stopped without a whole record is kept
-      left : looksBehind r w e ≡ leftAhead q (s .ends) → dueSearched X C q (s .ends) ≡ due → Does (looksBehind r w e)
-      left p same = leaves (q .mark) (s .ends) p refl (found-behind next w e (tells-next .is-good) none-yet) same
+      left : looksBehind r w e ≡ leftAhead q (s .ends) → dueSearched X C q (s .ends) ≡ due → IfDue due (Cut (r .fill)) → Does (looksBehind r w e)
+      left p same cut = leaves (q .mark) (s .ends) p refl (found-behind next w e (tells-next .is-good) none-yet) same (λ u. cut)
 
       -- nothing of the next record is there yet
       outside : r .fill .filled ≡ r .mark .search .0 → r .fill .told ≡ false → Does (looksBehind r w e)
@@ -180,28 +193,44 @@ module _ (X : List ℕ) (C : ℕ) (r : Reader) (w e : List ℕ) (t : Tells X C r
           (ap (λ (x : Recorded). dueSearched X C (reached (x .out .at) (x .out .count) next) (x .ends)) (sym past)
           ∙ outside-due X C next w e tells-next z
           ∙ due-next)
+          (if-here (Cut (r .fill)) C (r .slots) (next .mark .line) (base + r .mark .search .0) (suc (base + r .mark .search .0)) []
+          (λ m byte len. (open′, omega arith)) X)
 
       -- it stands in the window
       module _ (inside : r .mark .search .0 < r .fill .filled) where
         abbrev ms : List pass.Mark
         ms = foundAt X base (r .fill .filled) (next .mark .line) (byteOf next) (goesOn (next .mark)) (next .mark .count) e
 
+        inside-is : due ≡ judge C (r .slots) ms
+        inside-is = sym due-next ∙ inside-due X C next w e tells-next inside
+
         still : ms ≡ foundAt X base (r .fill .filled) (next .mark .line) (byteOf next) (s .out .at) (s .out .count) (s .ends) → dueSearched X C q (s .ends) ≡ due
         still are =
-            still-due X C next w e tells-next due ms s (sym due-next ∙ inside-due X C next w e tells-next inside)
+            still-due X C next w e tells-next due ms s inside-is
             (finds next w e (tells-next .is-good) none-yet) inside are
+
+        -- its end is not in the window, and the input may go on
+        cut-off : SeesBy X base (r .fill .filled) (next .mark .line) (byteOf next) stop.Filled ms s → r .fill .told ≡ false → IfDue due (Cut (r .fill))
+        cut-off k open′ =
+            if-as (Cut (r .fill)) (inside-is ∙ ap (judge C (r .slots)) (k .all))
+            (if-passed (Cut (r .fill)) C (r .slots) (next .mark .line) (byteOf next) (base + r .fill .filled) (endsIn base (s .out .count) (s .ends))
+            (λ m byte len. (open′, omega arith)) (drop (base + r .fill .filled) X) (k .held) (omega (arith, k .near)))
 
         by-stop : (o : Stop) → s .out .stop ≡ o → SeesBy X base (r .fill .filled) (next .mark .line) (byteOf next) o ms s → Does (looksBehind r w e)
         by-stop stop.Record p k = takes (q .mark) (s .ends) (looked-to stop.Record p) refl (read-step stop.Record p _ refl .goes)
-        by-stop stop.Full p k = left (looked-to stop.Full p) (still (k .still))
+        by-stop stop.Full p k =
+            left (looked-to stop.Full p) (still (k .still)) (if-refused (Cut (r .fill)) 4 _ due X C _ _ (read-step stop.Full p _ refl .goes))
         by-stop stop.Filled p k = go (r .fill .told) refl (decLe (r .slots) (s .out .count))
           where
             here : looksBehind r w e ≡ lookedTo stop.Filled q (s .ends)
             here = looked-to stop.Filled p
 
             go : (u : Bool) → r .fill .told ≡ u → Dec (r .slots ≤ s .out .count) → Does (looksBehind r w e)
-            go false u d = left (here ∙ to-not q (s .ends) u) (still (k .are))
-            go true u (yes d) = left (here ∙ to-told q (s .ends) u ∙ shut-full q (s .ends) d) (still (k .are))
+            go false u d = left (here ∙ to-not q (s .ends) u) (still (k .are)) (cut-off k u)
+            go true u (yes d) =
+                left (here ∙ to-told q (s .ends) u ∙ shut-full q (s .ends) d) (still (k .are))
+                (if-refused (Cut (r .fill)) 4 _ due X C _ _
+                (read-step stop.Filled p _ (filled-told q w (s .ends) u ∙ closed-full q w (s .ends) (s .out .at) d) .goes))
             go true u (no d) =
                 takes (reached (r .fill .filled) (s .out .count + 1) q .mark) (set (s .ends) (s .out .count) (s .out .at))
                 (here ∙ to-told q (s .ends) u ∙ shut-more q (s .ends) (omega arith)) refl

@@ -56,7 +56,7 @@ after-first (suc k) d = ap later (after-first k d)
 
 -- some records, and what is due behind them
 module _ (X : List ℕ) where
-  after-records : (ms : List Mark) (d : Dues) → Closed d → after (length ms) (map (saidOf X) (recordsThen ms d)) ≡ map (saidOf X) d
+  pub after-records : (ms : List Mark) (d : Dues) → Closed d → after (length ms) (map (saidOf X) (recordsThen ms d)) ≡ map (saidOf X) d
   unfolding after
   after-records [] d c = refl
   after-records (m ∷ ms) d c =
@@ -64,7 +64,7 @@ module _ (X : List ℕ) where
       ∙ ap (after (length ms)) (sym (map-later (saidOf X) (recordsThen (m ∷ ms) d)) ∙ ap (map (saidOf X)) (later-record m (recordsThen ms d) (closed-then (m ∷ ms) d c)))
       ∙ after-records ms d c
 
-  fine-records : (ms : List Mark) (d : Dues) → AllFine X (recordsThen ms d) → AllFine X d
+  pub fine-records : (ms : List Mark) (d : Dues) → AllFine X (recordsThen ms d) → AllFine X d
   fine-records [] d f = f
   fine-records (m ∷ ms) d f = fine-records ms d (f .1)
 
@@ -201,7 +201,7 @@ module _ (X : List ℕ) (C T : ℕ) where
     abbrev then-at : State
     then-at = afterSet t B M E s
 
-    call : Sets X C (s .reader) (dueTo X C (s .reader) (s .table)) called
+    call : Sets X C (s .reader) (dueTo X C (s .reader) (s .table)) M E called
     call = sets X C (s .reader) (s .window) (s .table) (k .tells) t B M E (k .fresh)
 
     abbrev L : List (meant.Said Rec)

@@ -1,5 +1,5 @@
--- One set call (01, module 6 and refusal 12): its records are the next ones due, in order; an ask, the end and refusals 2 to 5 are those of a read; and a
--- refusal of the state or of the set leaves what is due. Assumes nothing.
+-- One set call (01, module 6 and refusal 12): its records are the next ones due, in order, as many as have room and are whole; an ask, the end and refusals
+-- 2 to 5 are those of a read; and a refusal of the state or of the set leaves what is due. Assumes nothing.
 use Prim.Native.Nat.{ℕ, zero, suc, _+_, _≤_, _<_}
 use native.Mathlib.Omega.{arith}
 use mathlib.Core.Bool.{Bool, true, false, cond, _&&_, _||_, false≢true}
@@ -16,6 +16,7 @@ use Rattle.meaning.specs.Due as meant
 use Rattle.meaning.specs.Due.{dueBy}
 use Rattle.meaning.specs.OnePass.{Mark, Marked, good, bad, marks, leadMarks, tableMark, judgedMark, placeMark, dueMarks}
 use Rattle.meaning.proofs.Due.{due-gives, due-refuses}
+use Rattle.window.specs.Fill.{ready}
 use Rattle.window.specs.declared.fill.Fill.{Fill}
 use Rattle.reader.specs.declared.state.Reader.{Reader}
 use Rattle.reader.specs.declared.state.Phase.{Phase}
@@ -28,16 +29,17 @@ use Rattle.reader.proofs.ReadLaws.{lent-true}
 use Rattle.reader.proofs.Kept.{goesOn, isSearching}
 use Rattle.reader.proofs.LookLaws.{put-current}
 use Rattle.set.specs.declared.state.Set.{Set}
-use Rattle.set.specs.Set.{sound}
+use Rattle.set.specs.Set.{sound, endsBefore}
 use Rattle.set.specs.Read as set
 use Rattle.set.specs.Read.{Gathered, Called, fits, put, gather, pairs, emptied, leaves, refused12, filledWith, collectedIn, afterRead, setOf}
-use Rattle.runs.proofs.Tells.{Dues, judge, unlessOver, fromHere, endsOf, dueSearched, atSought, dueIn, dueTo, later, isWindow, isTable, Rests, Tells, Says, Answers, Goes, Same, Step}
+use Rattle.runs.proofs.Tells.{Dues, judge, unlessOver, fromHere, endsOf, dueSearched, atSought, dueIn, dueTo, later, isWindow, isTable, Rests, Settled, Tells, Says, Answers, Goes, Same, Step}
 use Rattle.runs.proofs.Begun.{at-rest}
 use Rattle.runs.proofs.Step.{steps, still-tells}
 use Rattle.runs.proofs.Look.{put-back-tells}
 use Rattle.runs.proofs.Back.{Fresh, read-backs, read-put-back, fresh-put-back}
+use Rattle.runs.proofs.Beyond.{Beyond}
 use Rattle.runs.proofs.SetTable.{Each}
-use Rattle.runs.proofs.Gather.{closed-due, Given, given, recordsThen, AllBelow, Gathers, Going, puts, All, gathers-all}
+use Rattle.runs.proofs.Gather.{closed-due, Given, given, recordsThen, AllBelow, marks-long, ends-long, Gathers, Going, puts, All, gathers-all}
 
 -- ---- a refusal that is due has a number of at most 5
 
@@ -151,7 +153,7 @@ pub data Kind (s : Set) (B M E : List ℕ) (r : Reader) (w e : List ℕ) : Type 
 
 -- ---- what a set call does to what is due
 
--- the records of a set, by their marks: they were due first, and stand in its tables
+-- the records of a set, by their marks: they were due first, and stand in its tables; what is due behind them is left out for a reason
 pub record Holds (X : List ℕ) (C : ℕ) (k filled : ℕ) (D : Dues) (c : Called) : Type 0 where
   pub marks-are : List Mark
   pub used : ℕ
@@ -160,11 +162,14 @@ pub record Holds (X : List ℕ) (C : ℕ) (k filled : ℕ) (D : Dues) (c : Calle
   pub due-is : D ≡ recordsThen marks-are (dueTo X C (c .reader) (c .table))
   pub each : Each (c .set .base .0) (c .set .line) (c .marks) (c .ends) used 0 marks-are
   pub in-table : used ≤ length (c .ends)
+  pub used-is : endsBefore (c .marks) k ≡ used
+  pub left-out : Beyond (length (c .marks)) (length (c .ends)) k used (c .reader .fill) (dueTo X C (c .reader) (c .table))
   pub count-is : c .set .count ≡ k
   pub marks-fit : k + k ≤ length (c .marks)
   pub below : AllBelow (c .set .base .0 + c .set .filled) marks-are
   pub same-place : c .reader .fill .base .0 ≡ c .set .base .0
   pub same-filled : c .reader .fill .filled ≡ c .set .filled
+  pub filled-is : c .set .filled ≡ filled
   pub bytes-fit : c .set .filled ≤ length (c .bytes)
   pub bytes-are : take (c .set .filled) (c .bytes) ≡ take (c .set .filled) (c .window)
 
@@ -175,12 +180,14 @@ SetGoes set.ends D X C c = dueTo X C (c .reader) (c .table) ≡ later D
 SetGoes (set.refuses n vs) D X C c =
     (((n ≡ 11) ⊎ (n ≡ 12)) × (dueTo X C (c .reader) (c .table) ≡ D)) ⊎ ((n ≤ 5) × (dueTo X C (c .reader) (c .table) ≡ later D))
 
-pub record Sets (X : List ℕ) (C : ℕ) (r : Reader) (D : Dues) (c : Called) : Type 0 where
+pub record Sets (X : List ℕ) (C : ℕ) (r : Reader) (D : Dues) (M E : List ℕ) (c : Called) : Type 0 where
   pub tells : Tells X C (c .reader) (c .window) (c .table)
   pub slots-are : c .reader .slots ≡ r .slots
   pub rests : Rests r → Rests (c .reader)
   pub fresh : Fresh X C (c .reader) (c .table)
   pub goes : SetGoes (c .said) D X C c
+  pub marks-same : length (c .marks) ≡ length M
+  pub ends-same : length (c .ends) ≡ length E
 
 module _ (X : List ℕ) (C : ℕ) (r : Reader) (w e : List ℕ) (t : Tells X C r w e) (s : Set) (B M E : List ℕ) where
   abbrev D : Dues
@@ -224,6 +231,13 @@ module _ (X : List ℕ) (C : ℕ) (r : Reader) (w e : List ℕ) (t : Tells X C r
     at-phase : d .reader .phase ≡ phase.Current
     at-phase = first .holds .is-current
 
+    -- from a window that is full, or at the told end
+    is-ready : ready (d .reader .fill) ≡ true
+    is-ready = subst (λ (a : Said). Settled a (r .fill .asking) (d .reader)) is (step .settled)
+
+    in-slots : d .reader .mark .count ≤ length (d .table)
+    in-slots = omega (arith, tells-then .is-good .is-sane .count-slots, tells-then .is-good .table-lent)
+
     abbrev pub begun : Gathered
     begun = record { reader = d .reader; table = d .table; count = 0; used = 0; marks = M; ends = E }
 
@@ -232,15 +246,21 @@ module _ (X : List ℕ) (C : ℕ) (r : Reader) (w e : List ℕ) (t : Tells X C r
     pairs-room (x ∷ []) = omega arith
     pairs-room (x ∷ y ∷ ms) = omega (arith, pairs-room ms)
 
+    pairs-all : (ms : List ℕ) → length ms < pairs ms + pairs ms + 2
+    pairs-all [] = omega arith
+    pairs-all (x ∷ []) = omega arith
+    pairs-all (x ∷ y ∷ ms) = omega (arith, pairs-all ms)
+
     -- it and those behind it are put into the set
     module _ (room : ℕ) (left : pairs M ≡ suc room) (fit : fits begun ≡ true) where
       pub going : Going X C (d .window) (d .reader .fill) (d .reader .slots) (d .reader .mark .line) D room (put begun) (first .mark ∷ [])
       going =
           puts X C (d .window) (d .reader .fill) (d .reader .slots) (d .reader .mark .line) D room begun [] (first .mark) (first .holds) tells-then refl refl
           (let z : d .reader .mark .line ≡ d .reader .mark .line + 0 = omega arith in z) refl refl tt tt (first .due-is)
-          (omega (arith, pairs-room M, left)) (leb-true (0 + d .reader .mark .count) (length E) fit)
+          (omega (arith, pairs-room M, left)) (omega (arith, pairs-all M, left)) (leb-true (0 + d .reader .mark .count) (length E) fit)
 
-      all : All X C (d .window) (d .reader .fill) (d .reader .slots) (d .reader .mark .line) D (first .mark ∷ []) (gather room (d .window) (put begun))
+      all : All X C (d .window) (d .reader .fill) (d .reader .slots) (d .reader .mark .line) D (first .mark ∷ []) (put begun)
+          (gather room (d .window) (put begun))
       all = gathers-all X C (d .window) (d .reader .fill) (d .reader .slots) (d .reader .mark .line) D room (put begun) (first .mark ∷ []) going
 
       -- in the same window
@@ -326,11 +346,11 @@ module _ (X : List ℕ) (C : ℕ) (r : Reader) (w e : List ℕ) (t : Tells X C r
   -- what a set call does to what is due
   module _ (fresh : Fresh X C r e) where
     abbrev Does : Called → Type 0
-    Does = Sets X C r D
+    Does = Sets X C r D M E
 
     -- nothing changes
     stays : (a : set.Said) (q : Set) → SetGoes a D X C (leaves s B M E a r w e q) → Does (leaves s B M E a r w e q)
-    stays a q goes = record { tells = t; slots-are = refl; rests = λ k. k; fresh = fresh; goes = goes }
+    stays a q goes = record { tells = t; slots-are = refl; rests = λ k. k; fresh = fresh; goes = goes; marks-same = refl; ends-same = refl }
 
     -- as a read, the set's slices untouched
     as-read : (a : set.Said) (q : Set) → SetGoes a D X C (leaves s B M E a (d .reader) (d .window) (d .table) q) → Does (leaves s B M E a (d .reader) (d .window) (d .table) q)
@@ -341,6 +361,8 @@ module _ (X : List ℕ) (C : ℕ) (r : Reader) (w e : List ℕ) (t : Tells X C r
           rests = step .rests;
           fresh = read-backs X C r w e t fresh .fresh;
           goes = goes;
+          marks-same = refl;
+          ends-same = refl;
         }
 
     module _ (l b : ℕ) (is : d .said ≡ gives l b) (enough : ltb (length B) (length w) ≡ false) where
@@ -372,12 +394,15 @@ module _ (X : List ℕ) (C : ℕ) (r : Reader) (w e : List ℕ) (t : Tells X C r
                 λ k. at-rest (putBackOf (d .reader)) (ap (λ (o : Reader). isWindow (o .phase)) same) (ap (λ (o : Reader). isTable (o .phase)) same);
             fresh = fresh-put-back X C (d .reader) (d .window) (d .table) tells-then (at-phase l b is);
             goes = inl (inr refl, read-put-back X C r w e t fresh l b is);
+            marks-same = refl;
+            ends-same = refl;
           }
 
       filled : (room : ℕ) (left : pairs M ≡ suc room) (fit : fits (begun l b is) ≡ true) → Does (filledWith s B M E d (gather room (d .window) (put (begun l b is))))
       filled room left fit =
           let k = all l b is room left fit in
           let g = k .gathers in
+          let h = gather room (d .window) (put (begun l b is)) in
           record {
             tells = g .tells;
             slots-are = g .slots-are ∙ step .same .slots-are;
@@ -392,16 +417,23 @@ module _ (X : List ℕ) (C : ℕ) (r : Reader) (w e : List ℕ) (t : Tells X C r
                   due-is = g .due-is;
                   each = g .each;
                   in-table = g .used-fits;
+                  used-is = g .used-is;
+                  left-out =
+                      subst (λ (x : Fill). Beyond (length (h .marks)) (length (h .ends)) (h .count) (h .used) x (dueTo X C (h .reader) (h .table)))
+                      (sym (g .fill-is)) (k .left (is-ready l b is));
                   count-is = refl;
                   marks-fit = g .marks-fit;
                   below = g .below;
                   same-place = ap (λ (x : Fill). x .base .0) (g .fill-is);
                   same-filled = ap (λ (x : Fill). x .filled) (g .fill-is);
+                  filled-is = refl;
                   bytes-fit = omega (arith, copied-fits, length-pasted 0 copied B (omega (arith, copied-fits, copied-long)));
                   bytes-are =
                       ap (take (d .reader .fill .filled)) (pasted-room 0 copied B (omega (arith, copied-fits, copied-long)))
                       ∙ take-at copied (drop (0 + length copied) B) (d .reader .fill .filled) copied-long;
                 };
+            marks-same = k .marks-same ∙ marks-long (begun l b is);
+            ends-same = k .ends-same ∙ ends-long (begun l b is) (in-slots l b is) (leb-true (0 + d .reader .mark .count) (length E) fit);
           }
 
       collected : (room : ℕ) → pairs M ≡ room → Does (collectedIn s B M E room d)

@@ -1,5 +1,5 @@
--- Sets in any run, proved: each record of a set is the one due at its number, and stands in the set's bytes and tables; 11 and 12 come exactly when the table
--- says, the rest is a read's. Assumes nothing.
+-- Sets in any run, proved: each record of a set is the one due at its number, and stands in the set's bytes and tables, and the one behind the last has no
+-- place there; 11 and 12 come exactly when the table says, the rest is a read's. Assumes nothing.
 use Prim.Native.Nat.{ℕ, zero, suc, _+_, _-_, _≤_, _<_}
 use native.Mathlib.Omega.{arith}
 use mathlib.Core.Bool.{Bool, true, false, cond, _&&_, false≢true}
@@ -17,7 +17,7 @@ use Rattle.meaning.specs.Due as meant
 use Rattle.meaning.specs.OnePass.{Mark}
 use Rattle.meaning.proofs.OnePass.{cutOut}
 use Rattle.meaning.proofs.Ends.{endsAt}
-use Rattle.meaning.proofs.Marks.{right-count}
+use Rattle.meaning.proofs.Marks.{right-size, right-count}
 use Rattle.meaning.proofs.Due.{saidOf}
 use Rattle.reader.specs.declared.state.Reader.{Reader}
 use Rattle.reader.specs.Read.{Said, asks, gives, ends, refuses, Did, readOf}
@@ -30,17 +30,18 @@ use Rattle.set.specs.Read.{Called, Gathered, filledWith}
 use Rattle.set.proofs.Shown.{shows-at, writes-at, placed-there}
 use Rattle.runs.specs.Run.{State, setting, Event, reading, afterRead}
 use Rattle.runs.specs.Demand.{origin, answers, dueFrom, nth, Hears}
-use Rattle.runs.specs.Sets.{GivesAt, IfRecord, Misfits, Refused, HearsSet, Sets}
+use Rattle.runs.specs.Sets.{GivesAt, IfRecord, OrNone, linesDue, linesOf, LeftOut, Misfits, Refused, HearsSet, Sets}
 use Rattle.runs.proofs.Tells.{Dues, dueTo, later, Tells}
 use Rattle.runs.proofs.Fine.{Fine, AllFine, after}
 use Rattle.runs.proofs.Gather.{Closed, closed-due, closed-then, later-record, recordsThen, AllBelow, Given}
+use Rattle.runs.proofs.Beyond.{Cut, Beyond}
 use Rattle.runs.proofs.SetTable.{At, Each}
 use Rattle.runs.proofs.SetCall as call
 use Rattle.runs.proofs.SetCall.{Holds, Kind, of-state, of-bytes, asks-too, ends-too, refuses-too, misfits, holding, kind, few, sets}
 use Rattle.runs.proofs.SearchMarks.{ends-count}
 use Rattle.runs.proofs.Step.{still-tells}
 use Rattle.runs.proofs.Stood.{stands}
-use Rattle.runs.proofs.Reached.{Reached, after-add, after-first, map-later, runs-on, reached-made}
+use Rattle.runs.proofs.Reached.{Reached, after-add, after-first, map-later, after-records, fine-records, runs-on, reached-made}
 use Rattle.runs.proofs.Demand.{nth-after, next-is, hears}
 
 -- ---- a record of a set by its number
@@ -171,24 +172,96 @@ module _ (X : List ℕ) (C T : ℕ) (h : List Event) (s : State) (k : Reached X 
   abbrev next : ℕ → meant.Said Rec
   next i = nth (i + answers h) (dueFrom X C T (origin h))
 
-  does : call.Sets X C r D c
+  does : call.Sets X C r D M E c
   does = sets X C r (s .window) (s .table) (k .tells) t B M E (k .fresh)
 
-  holds-records : (n filled : ℕ) → Holds X C n filled D c → (i : ℕ) → i < n → IfRecord (next i) (λ (q : Rec). GivesAt q i c)
-  holds-records n filled o i h′ =
-      let D′ = dueTo X C (c .reader) (c .table) in
-      let found = number X (c .set .base .0) (c .set .line) (c .marks) (c .ends) (o .used) (c .set .base .0 + c .set .filled) (o .marks-are) D′ i 0
-      (omega (arith, o .as-many, h′)) (closed-due (c .reader .phase) X C (c .reader) (c .table)) (o .each) (o .below) (subst (AllFine X) (o .due-is) (k .fine)) in
-      let z : i + 0 ≡ i = omega arith in
-      let is : next i ≡ meant.gives (cutOut X (found .mark)) =
-      nth-after (i + answers h) (dueFrom X C T (origin h)) (meant.gives (cutOut X (found .mark))) (found .rest)
-      (after-add i (answers h) (dueFrom X C T (origin h))
-      ∙ ap (after i) (sym (k .due-is) ∙ ap (map (saidOf X)) (o .due-is))
-      ∙ found .due-is) in
-      subst (λ (a : meant.Said Rec). IfRecord a (λ (q : Rec). GivesAt q i c)) (sym is)
-      (gives-at X C n filled D c (does .tells) o i h′ (found .mark)
-      (subst (λ (j : ℕ). At (c .set .base .0) (c .set .line) (c .marks) (c .ends) (o .used) j (found .mark)) z (found .stands-at)) (found .is-fine)
-      (found .is-below))
+  -- what a set holds
+  module _ (n filled : ℕ) (o : Holds X C n filled D c) where
+    abbrev base : ℕ
+    base = c .set .base .0
+
+    abbrev rest : Dues
+    rest = dueTo X C (c .reader) (c .table)
+
+    all-fine : AllFine X (recordsThen (o .marks-are) rest)
+    all-fine = subst (AllFine X) (o .due-is) (k .fine)
+
+    closed : Closed rest
+    closed = closed-due (c .reader .phase) X C (c .reader) (c .table)
+
+    -- what is due, in the meaning's words
+    abbrev said : List (meant.Said Rec)
+    said = map (saidOf X) (recordsThen (o .marks-are) rest)
+
+    -- behind the first i records
+    due-behind : (i : ℕ) (a : meant.Said Rec) (d : List (meant.Said Rec)) → after i said ≡ a ∷ d → next i ≡ a
+    due-behind i a d is =
+        nth-after (i + answers h) (dueFrom X C T (origin h)) a d
+        (after-add i (answers h) (dueFrom X C T (origin h)) ∙ ap (after i) (sym (k .due-is) ∙ ap (map (saidOf X)) (o .due-is)) ∙ is)
+
+    -- record i of the set
+    module _ (i : ℕ) (h′ : i < n) where
+      abbrev NumberOf : ℕ → Type 0
+      NumberOf j = Number X base (c .set .line) (c .marks) (c .ends) (o .used) (base + c .set .filled) j (after i said)
+
+      found : NumberOf i
+      found =
+          let z : i + 0 ≡ i = omega arith in
+          subst NumberOf z
+          (number X base (c .set .line) (c .marks) (c .ends) (o .used) (base + c .set .filled) (o .marks-are) rest i 0 (omega (arith, o .as-many, h′)) closed
+          (o .each) (o .below) all-fine)
+
+      next-found : next i ≡ meant.gives (cutOut X (found .mark))
+      next-found = due-behind i (meant.gives (cutOut X (found .mark))) (found .rest) (found .due-is)
+
+      holds-record : IfRecord (next i) (λ (q : Rec). GivesAt q i c)
+      holds-record =
+          subst (λ (a : meant.Said Rec). IfRecord a (λ (q : Rec). GivesAt q i c)) (sym next-found)
+          (gives-at X C n filled D c (does .tells) o i h′ (found .mark) (found .stands-at) (found .is-fine) (found .is-below))
+
+      -- its lines are as many as its ends in the table
+      lines-found : linesDue (next i) ≡ endsTo (c .marks) i - endsBefore (c .marks) i
+      lines-found =
+          ap linesDue next-found
+          ∙ right-count X (found .mark) (found .is-fine .is-right)
+          ∙ many X C n filled D c (does .tells) o i h′ (found .mark) (found .stands-at) (found .is-fine) (found .is-below)
+
+    lines-used : (i : ℕ) → i ≤ n → linesOf next i ≡ endsBefore (c .marks) i
+    lines-used zero h′ = refl
+    lines-used (suc i) h′ =
+        let to : endsBefore (c .marks) (suc i) ≡ endsTo (c .marks) i = refl in
+        omega (arith, lines-used i (omega arith), lines-found i (omega arith), found i (omega arith) .stands-at .some-end, to)
+
+    -- the record behind the last one is left out
+    abbrev Out : Rec → Type 0
+    Out = LeftOut n (linesOf next n) (length M) (length E) (base + filled) (c .reader .fill .told)
+
+    mark-out : (m : Mark) → Fine X m
+        → (length (c .marks) < n + n + 2) ⊎ ((length (c .ends) < o .used + length (m .ends)) ⊎ Cut (c .reader .fill) m) → Out (cutOut X m)
+    mark-out m f (inl u) = inl (omega (arith, does .marks-same))
+    mark-out m f (inr (inl u)) =
+        inr (inl (omega (arith, does .ends-same, right-count X m (f .is-right), lines-used n (omega arith), o .used-is)))
+    mark-out m f (inr (inr (u, v))) =
+        inr (inr (u, omega (arith, right-size X m (f .is-right), o .same-place, o .same-filled, o .filled-is)))
+
+    left-out : OrNone (next n) Out
+    left-out = go rest refl (fine-records X (o .marks-are) rest all-fine) (o .left-out)
+      where
+        said-next : (a : meant.Said Mark) (d : Dues) → rest ≡ a ∷ d → next n ≡ saidOf X a
+        said-next a d is =
+            due-behind n (saidOf X a) (map (saidOf X) d)
+            (ap (λ (j : ℕ). after j said) (sym (o .as-many))
+            ∙ after-records X (o .marks-are) rest closed
+            ∙ ap (map (saidOf X)) is)
+
+        by : (a : meant.Said Mark) (d : Dues) → rest ≡ a ∷ d → OrNone (saidOf X a) Out → OrNone (next n) Out
+        by a d is q = subst (λ (x : meant.Said Rec). OrNone x Out) (sym (said-next a d is)) q
+
+        go : (d : Dues) → rest ≡ d → AllFine X d → Beyond (length (c .marks)) (length (c .ends)) n (o .used) (c .reader .fill) d → OrNone (next n) Out
+        go [] is f u = absurd (subst Closed is closed)
+        go (meant.gives m ∷ d) is f u = by (meant.gives m) d is (mark-out m (f .0) u)
+        go (meant.ends ∷ d) is f u = by meant.ends d is tt
+        go (meant.refuses i vs ∷ d) is f u = by (meant.refuses i vs) d is tt
 
   -- what the read says is due first
   read-heard : (a : Said) → reading s .said ≡ a → Hears a (next 0) (afterRead s)
@@ -246,10 +319,10 @@ module _ (X : List ℕ) (C T : ℕ) (h : List Event) (s : State) (k : Reached X 
       go (misfits l b u v q) = by _ q (inr (inr (inl (refl, not-fitting l b u v))))
       go (holding l b u g q) = by _ q (held-heard g q)
         where
-          held-heard : (g : Gathered) → c ≡ filledWith t B M E (reading s) g → (1 ≤ g .count) × ((i : ℕ) → i < g .count → IfRecord (next i) (λ (q : Rec). GivesAt q i c))
+          held-heard : (g : Gathered) → c ≡ filledWith t B M E (reading s) g → Heard (filledWith t B M E (reading s) g .said)
           held-heard g q =
               let o = subst (λ (a : set.Said). call.SetGoes a D X C c) (ap (λ (x : Called). x .said) q) (does .goes) in
-              (o .some-record, holds-records (g .count) _ o)
+              (o .some-record, (holds-record (g .count) _ o, left-out (g .count) _ o))
 
 pub any-sets : Sets
 any-sets X capacity policy start made h s r t B M E =

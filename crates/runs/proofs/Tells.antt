@@ -141,10 +141,11 @@ restSays phase.Table r = some (refuses 4 (placed r))
 restSays phase.Astray r = some (refuses 5 [])
 restSays phase.Ahead r = none
 
--- after the end or a refusal a reader is at rest, its ask open or not as before: it says the same again, but the end after refusal 2
+-- A record is given from a window that is full, or at the told end. After the end or a refusal a reader is at rest, its ask open or not as before: it
+-- says the same again, but the end after refusal 2.
 abbrev pub Settled : Said → (asking : Bool) → Reader → Type 0
 Settled (asks p m o) asking r = Unit {0}
-Settled (gives l b) asking r = Unit {0}
+Settled (gives l b) asking r = ready (r .fill) ≡ true
 Settled ends asking r = (restSays (r .phase) r ≡ some ends) × (r .fill .asking ≡ asking)
 Settled (refuses n vs) asking r = (restSays (r .phase) r ≡ some (cond (eqb n 2) ends (refuses n vs))) × (r .fill .asking ≡ asking)
 
