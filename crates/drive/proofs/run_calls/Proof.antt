@@ -6,11 +6,11 @@ use Rattle.drive.proofs.run_calls.Statement.{statement}
 use Rattle.drive.proofs.run_calls.Tie as tie
 
 abbrev Inv-loop : tie.InvT-loop
-Inv-loop bytes from input window₀ ends₀ room₀ out₀ run₀ place₀ left₀ window ends room out run place left =
+Inv-loop bytes from input window₀ ends₀ room₀ held₀ marks₀ lasts₀ out₀ run₀ place₀ left₀ window ends room held marks lasts out run place left =
     (length window ≡ length window₀) × ((length ends ≡ length ends₀) × (length room ≡ length room₀))
 
 abbrev μ-loop : tie.MeasureT-loop
-μ-loop bytes from input window₀ ends₀ room₀ out₀ run₀ place₀ left₀ window ends room out run place left =
+μ-loop bytes from input window₀ ends₀ room₀ held₀ marks₀ lasts₀ out₀ run₀ place₀ left₀ window ends room held marks lasts out run place left =
     left
 
 plus-requires : tie.Need-plus-requires Inv-loop μ-loop
@@ -42,6 +42,9 @@ same-length-3 c = search needs
 
 returns : tie.Need-returns Inv-loop μ-loop
 returns c = search needs
+
+front-requires : tie.Need-front-requires Inv-loop μ-loop
+front-requires c κs = search needs
 
 call-at-requires : tie.Need-call-at-requires Inv-loop μ-loop
 call-at-requires c κs = search needs
@@ -83,6 +86,7 @@ run-calls-spec =
     same-length-2
     same-length-3
     returns
+    front-requires
     call-at-requires
     loop-less
     loop-again
