@@ -1,7 +1,8 @@
 -- Each turn takes one of the calls; the lengths of what is lent stay. Assumes nothing.
 use borrow.Author.Needs.{needs}
 use lib.ListN.{length}
-use mathlib.Core.Path.{_≡_}
+use mathlib.Core.Path.{_≡_, _∙_}
+use native.Mathlib.Omega.{arith}
 use Rattle.drive.proofs.run_calls.Statement.{statement}
 use Rattle.drive.proofs.run_calls.Tie as tie
 
@@ -50,10 +51,13 @@ call-at-requires : tie.Need-call-at-requires Inv-loop μ-loop
 call-at-requires c κs = search needs
 
 loop-less : tie.Need-loop-less Inv-loop μ-loop
-loop-less c = search needs
+loop-less c = omega (arith, c .before .before .before .before .before .before .before .before .before .before .before .before .before .before .before .before .before .loop-test .taken)
 
 loop-again : tie.Need-loop-again Inv-loop μ-loop
-loop-again c = search needs
+loop-again c =
+    let C = c .before .before .before .before .before .before .call-at in
+    let I = c .before .before .before .before .before .before .before .before .before .before .before .before .before .before .before .before .before .before .loop .inv in
+    (C .kept .1 .1 .1 .1 .0 ∙ I .0, (C .kept .1 .1 .1 .1 .1 .0 ∙ I .1 .0, C .kept .1 .1 .1 .1 .1 .1 .0 ∙ I .1 .1))
 
 done-requires : tie.Need-done-requires Inv-loop μ-loop
 done-requires c κs = search needs
