@@ -1,11 +1,12 @@
 #!/usr/bin/env python3
-"""Writes the gate's cases of `drive`: document 01's bench list at three capacities, its setups, T = 2, readers altered by hand, and
-the writers.
+"""Writes the gate's cases of `drive`: document 01's bench list at three capacities, its setups, T = 2, readers altered by hand, the
+writers, and sets.
 
     python3 tests/drive_cases.py
 
 Writes crates/drive/stdin and crates/drive/stdout. The answers come from tests/compare/model.py, which is written from 01; each line that the
-bench list itself states is checked here besides, and so are the texts of a record's writers.
+bench list itself states is checked here besides, and so are the texts of a record's writers, and every answer about sets (01, module 6 and
+refusal 12) that is written out below.
 """
 import os
 import sys
@@ -53,14 +54,39 @@ class Script:
         return self.lines[-1]
 
     def read(self):
-        """Reads until the answer is no ask. Each report brings `step` bytes, or all that there is room for."""
-        line = self.call(1)
+        return self.serve(1)
+
+    def serve(self, *call):
+        """Calls until the answer is no ask. Each report brings `step` bytes, or all that there is room for."""
+        line = self.call(*call)
         while line.startswith("ask"):
             _, _, room, offset = line.split()
             left = max(0, len(self.data) - int(offset))
             self.call(2, min(int(room), left, self.step or left))
-            line = self.call(1)
+            line = self.call(*call)
         return line
+
+    def set(self, wanted, room=PLENTY, records=8, ends=16):
+        """A set with that much room: its answer, and that it has no record if it is none."""
+        self.serve(5, room, records, ends)
+        self.say(wanted)
+        if not wanted.startswith(("set", "refused 11")):
+            self.held()
+
+    def held(self, *places):
+        """The positions of the last set's records, and that there is none behind them: 7, before 10, 9 and 8."""
+        for number, (line, byte) in enumerate(places):
+            self.told("at %d %d" % (line, byte), 12, number)
+        for number in (len(places), (1 << 32) - 1):
+            self.told("refused 7", 12, number)
+            for what in range(6):
+                self.told("refused 7", 8, number, what, 99, 0)
+            for what in range(3):
+                self.told("refused 7", 9, number, what, 0, 0)
+
+    def told(self, wanted, *call):
+        self.call(*call)
+        self.say(wanted)
 
     def say(self, wanted):
         """The last line must be this one of the bench list."""
@@ -316,9 +342,249 @@ def bad_ends():
         yield case
 
 
+# Three records, by hand: line and byte; the number of ends; head, id, description, raw sequence; lines; joined sequence; the texts by `write`,
+# by `write_wrap` at width 3, and by `write_unchanged`. The input has 24 bytes.
+THREE = b">id1 d\nACG\nT\n>b\r\nGG\r\n>c\n"
+RECORDS = [
+    (1, 0, 3, (b"id1 d", b"id1", b"d", b"ACG\nT"), [b"ACG", b"T"], b"ACGT", (b">id1 d\nACGT\n", b">id1 d\nACG\nT\n", b">id1 d\nACG\nT\n")),
+    (4, 13, 2, (b"b", b"b", None, b"GG"), [b"GG"], b"GG", (b">b\nGG\n", b">b\nGG\n", b">b\r\nGG\r\n")),
+    (6, 21, 1, (b"c", b"c", None, b""), [], b"", (b">c\n\n", b">c\n\n", b">c\n")),
+]
+PLACES = [record[:2] for record in RECORDS]
+
+
+def three(capacity=PLENTY, window=PLENTY, slots=8, step=None):
+    return Script((capacity, 0, 0, 0, window, slots), THREE, step)
+
+
+def show(case, number, record):
+    """Each view and writer of a set's record, by its number in the set."""
+    _, _, _, parts, lines, joined, texts = record
+    for what, part in enumerate(parts):
+        case.told("none" if part is None else "part " + model.hexed(part), 8, number, what, 0, 0)
+    for at, line in enumerate(lines):
+        case.told("part " + model.hexed(line), 8, number, 4, at, 0)
+    case.told("refused 8", 8, number, 4, len(lines), 0)
+    case.told(("window " if len(lines) == 1 else "scratch ") + model.hexed(joined), 8, number, 5, 0, len(joined))
+    if len(lines) > 1:
+        case.told("refused 9 %d" % len(joined), 8, number, 5, 0, len(joined) - 1)
+    for what, text in enumerate(texts):
+        case.told("wrote " + model.hexed(text), 9, number, what, 3, len(text))
+        case.told("refused 9 %d" % len(text), 9, number, what, 3, len(text) - 1)
+    case.told("refused 10", 9, number, 1, 0, 0)  # before 9
+
+
+def sets():
+    """What 01 says of sets, by hand."""
+    for step in (None, 1):
+        yield from (all_records(step), one_by_one(step), few_ends(step), short_bytes(step), no_room(step), refilled(step))
+    yield from (long_record(), many_lines(), *others(), set_state(), most_room())
+
+
+def all_records(step):
+    """Room for all: no set yet, an ask, three records, then none; nothing is current then, and `position` is none."""
+    case = three(step=step)
+    case.held()
+    case.told("ask 0 64 0", 5, 64, 8, 16)
+    case.held()
+    case.told("none", 4)
+    case.set("set 3 24")
+    case.held(*PLACES)
+    for number, record in enumerate(RECORDS):
+        show(case, number, record)
+    case.told("none", 4)
+    case.told("refused 7", 6, 0, 0, 0)
+    each_writer(case, "refused 7")
+    case.set("end")
+    case.told("none", 4)
+    case.set("end", PLENTY, 0, 0)  # the end comes before the tables
+    case.read()
+    case.say("end")
+    return case
+
+
+def one_by_one(step):
+    """Room for one record: the next one is read next, and `position` names it. Its number in the set is 0."""
+    case = three(step=step)
+    for number, record in enumerate(RECORDS):
+        case.set("set 1 24", PLENTY, 1, 3)
+        case.held(PLACES[number])
+        show(case, 0, record)
+        case.told("at %d %d" % PLACES[number + 1] if number < 2 else "none", 4)
+    case.set("end", PLENTY, 1, 3)
+    return case
+
+
+def few_ends(step):
+    """Room for three ends: the first record's, then those of the other two."""
+    case = three(step=step)
+    case.set("set 1 24", PLENTY, 8, 3)
+    case.held(PLACES[0])
+    case.told("at 4 13", 4)
+    case.set("set 2 24", PLENTY, 8, 3)
+    case.held(*PLACES[1:])
+    for number in range(2):
+        show(case, number, RECORDS[1 + number])
+    case.set("end", PLENTY, 8, 3)
+    return case
+
+
+def short_bytes(step):
+    """12 by bytes shorter than the window: before an ask, beside one, beside a current record, behind a set and at the end. The reader stays."""
+    case = three(step=step)
+    case.told("refused 12", 5, 63, 8, 16)
+    case.told("none", 4)
+    case.told("ask 0 64 0", 1)
+    case.told("refused 12", 5, 0, 8, 16)
+    case.told("ask 0 64 0", 1)
+    case.read()
+    case.say("record 1 0 2")
+    case.set("refused 12", 63)
+    case.told("part 6964312064", 6, 0, 0, 0)  # it is current still
+    case.told("at 1 0", 4)
+    case.set("set 2 24", 65)
+    case.held(*PLACES[1:])
+    case.set("refused 12", 63)
+    case.told("none", 4)
+    case.set("refused 12", 63, 0, 0)
+    case.read()
+    case.say("end")
+    case.set("refused 12", 63)
+    return case
+
+
+def no_room(step):
+    """12 by its tables, once the record is whole: the next read, or a set with more room, gives that record. None is current."""
+    case = three(step=step)
+    case.set("refused 12", PLENTY, 0, 16)
+    case.told("at 1 0", 4)
+    case.set("refused 12", PLENTY, 8, 2)
+    case.told("at 1 0", 4)
+    case.told("refused 7", 6, 0, 0, 0)
+    case.read()
+    case.say("record 1 0 2")
+    case.set("refused 12", PLENTY, 8, 1)
+    case.told("at 4 13", 4)
+    case.told("refused 7", 6, 0, 0, 0)
+    case.set("refused 12", PLENTY, 8, 0)
+    case.read()
+    case.say("record 4 13 1")
+    case.told("part 62", 6, 0, 0, 0)
+    case.set("set 1 24", PLENTY, 1, 1)
+    case.held(PLACES[2])
+    show(case, 0, RECORDS[2])
+    case.set("end")
+    return case
+
+
+def refilled(step):
+    """A window of 16 bytes: the first record is whole in it, the second not. Behind the move the window begins at byte 13."""
+    case = three(16, 16, step=step)
+    case.set("set 1 16", 16)
+    case.held(PLACES[0])
+    show(case, 0, RECORDS[0])
+    case.told("at 4 13", 4)
+    case.told("ask 3 13 16", 5, 16, 8, 16)
+    case.held()
+    case.told("none", 4)
+    case.set("set 2 11", 16)
+    case.held(*PLACES[1:])
+    for number in range(2):
+        show(case, number, RECORDS[1 + number])
+    case.told("none", 4)
+    case.set("end", 16)
+    return case
+
+
+def long_record():
+    """3 in a set call: the record at byte 5 has 12 bytes, the window too. It lasts, and comes before the tables."""
+    case = Script((12, 0, 0, 0, 12, 8), b">a\nC\n>id\nAAAAAAA\n")
+    case.set("set 1 12", 12)
+    case.held((1, 0))
+    case.told("at 3 5", 4)
+    for _ in range(2):
+        case.set("refused 3 3 5", 12)
+        case.told("at 3 5", 4)
+    case.set("refused 3 3 5", 12, 0, 0)
+    case.set("refused 12", 11)
+    case.read()
+    case.say("refused 3 3 5")
+    return case
+
+
+def many_lines():
+    """4 in a set call: two slots, and a second record with three lines. The set before it ends there; the refusal lasts."""
+    case = Script((64, 0, 0, 0, PLENTY, 2), b">a\nC\n>b\nA\nC\n>c\n")
+    case.set("set 1 15")
+    case.held((1, 0))
+    case.told("at 3 5", 4)
+    for _ in range(2):
+        case.set("refused 4 3 5")
+        case.told("at 3 5", 4)
+    case.set("refused 4 3 5", PLENTY, 0, 0)
+    case.set("refused 12", 63)
+    case.read()
+    case.say("refused 4 3 5")
+    case.told("ok", 3, 6, 12)  # a seek behind it
+    case.set("set 1 15")
+    case.held((6, 12))
+    return case
+
+
+def others():
+    """A blank lead; 2, once; sets behind a seek, and 5."""
+    case = Script((64, 0, 0, 0, PLENTY, 8), b"\n\r\n>a\nA")
+    case.set("set 1 7")
+    case.held((3, 3))
+    case.told("wrote 3e610a410a", 9, 0, 2, 0, 5)
+    case.told("ok", 3, 3, 3)
+    case.told("at 3 3", 12, 0)  # a seek leaves the set
+    case.set("set 1 7")
+    case.held((3, 3))
+    case.told("ok", 3, 2, 1)
+    case.set("refused 5")
+    case.set("refused 5", PLENTY, 0, 0)
+    yield case
+    case = Script((64, 0, 0, 0, PLENTY, 8), b"\n\rX")
+    case.set("refused 2 2 13")
+    case.set("end")
+    yield case
+
+
+def set_state():
+    """An altered reader: 11, which leaves the set as it is too, and comes before 12. A set read with less room than the last is another set."""
+    case = three()
+    case.set("set 3 24")
+    case.told("altered", 14, 0, 2)
+    for room, records, ends in ((64, 8, 16), (63, 8, 16), (64, 0, 0), (0, 0, 0)):
+        case.told("refused 11", 5, room, records, ends)
+        case.held(*PLACES)
+    for number, record in enumerate(RECORDS):
+        show(case, number, record)
+    case.told("altered", 14, 0, 64)
+    case.told("ok", 3, 1, 0)
+    case.set("set 1 24", PLENTY, 1, 3)
+    case.held(PLACES[0])
+    case.set("set 2 24")
+    case.set("refused 12", 10, 1, 1)
+    case.set("end", PLENTY, 0, 0)
+    return case
+
+
+def most_room():
+    """The most room that a script may name."""
+    case = three(WINDOW, WINDOW, 4096)
+    case.set("set 3 24", WINDOW, 1024, 4096)
+    case.held(*PLACES)
+    show(case, 2, RECORDS[2])
+    case.told("scratch 41434754", 8, 0, 5, 0, WINDOW)
+    case.told("wrote 3e630a0a", 9, 2, 0, 0, WINDOW)
+    return case
+
+
 def main():
     cases = [case for capacity in (3, 4, WINDOW) for step in (None, 1) for case in bench(capacity, step)]
-    for more in (growth, setups, tables, seeks, altered, writers, record_writers):
+    for more in (growth, setups, tables, seeks, altered, writers, record_writers, sets):
         cases += more()
     folder = os.path.join(ROOT, "crates", "drive")
     with open(os.path.join(folder, "stdin"), "wb") as file:

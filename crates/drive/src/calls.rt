@@ -10,6 +10,7 @@ use crate::script::byte_at;
 use crate::script::front;
 use crate::script::front_ends;
 use crate::script::number_at;
+use crate::sets::Last;
 use growth::Growth;
 use reader::Answer;
 use reader::Current;
@@ -23,14 +24,15 @@ use view::View;
 use window::Ask;
 use window::InputOffset;
 
-// The reader of a script, the last ask, and how much of the output's buffer is taken.
+// The reader of a script, the last ask, the last set, and how much of the output's buffer is taken.
 pub(crate) struct Run {
     pub(crate) reader: Reader,
     pub(crate) ask: Ask,
+    pub(crate) last: Last,
     pub(crate) at: usize,
 }
 
-// One call, by its code and its operands.
+// One call, by its code and its operands. Those about sets stand in sets.rt.
 pub(crate) fn call(
     run: Run,
     code: u8,
@@ -80,7 +82,12 @@ fn read(run: Run, window: &mut [u8], ends: &mut [usize], out: &mut [u8; 65536]) 
     let mark = reader.mark;
     let at = put_answer(answer, mark.count, out, run.at);
     let ask = last_ask(answer, run.ask);
-    Run { reader, ask, at }
+    Run {
+        reader,
+        ask,
+        at,
+        ..run
+    }
 }
 
 // The last ask.
@@ -105,7 +112,7 @@ fn put_answer(answer: Answer, count: usize, out: &mut [u8; 65536], from: usize) 
     }
 }
 
-fn put_ask(ask: Ask, out: &mut [u8; 65536], from: usize) -> usize {
+pub(crate) fn put_ask(ask: Ask, out: &mut [u8; 65536], from: usize) -> usize {
     let place = ask.place;
     let offset = ask.offset;
     let at = put_text(out, from, b"ask");
@@ -121,7 +128,7 @@ fn put_record(place: Position, count: usize, out: &mut [u8; 65536], from: usize)
     put_two(out, behind, b"", byte.0, lines as u64)
 }
 
-fn put_place(place: Position, word: &[u8], out: &mut [u8; 65536], from: usize) -> usize {
+pub(crate) fn put_place(place: Position, word: &[u8], out: &mut [u8; 65536], from: usize) -> usize {
     let byte = place.byte;
     put_two(out, from, word, place.line, byte.0)
 }
@@ -306,7 +313,7 @@ fn put_view(
     }
 }
 
-fn put_shown(view: View, bytes: &[u8], out: &mut [u8; 65536], from: usize) -> usize {
+pub(crate) fn put_shown(view: View, bytes: &[u8], out: &mut [u8; 65536], from: usize) -> usize {
     match view {
         View::Part { from: _, to: _ } => put_part(out, from, b"part", view::shown(view, bytes)),
         View::None => put_text(out, from, b"none\n"),
@@ -331,6 +338,17 @@ fn put_full(
     }
     let scratch = &mut room[..length];
     let full = view::full_in(bytes, start, ends, scratch);
+    put_picked(full, bytes, scratch, out, from)
+}
+
+// A full sequence: the part of the bytes or of the scratch that it is.
+pub(crate) fn put_picked<'a>(
+    full: Full,
+    bytes: &'a [u8],
+    scratch: &'a [u8],
+    out: &mut [u8; 65536],
+    from: usize,
+) -> usize {
     match full {
         Full::Window { from: _, to: _ } => put_part(
             out,

@@ -4,6 +4,7 @@ mod free;
 mod out;
 mod record;
 mod script;
+mod sets;
 
 use calls::Run;
 use calls::call;
@@ -20,6 +21,9 @@ use script::call_end;
 use script::front;
 use script::number_at;
 use script::plus;
+use sets::call_set;
+use sets::is_about_sets;
+use sets::no_set;
 use window::Ask;
 use window::InputOffset;
 use window::WindowOffset;
@@ -52,16 +56,31 @@ fn run_all(bytes: &[u8; 1048577], n: usize, out: &mut [u8; 65536]) -> usize {
     let mut window = io::large_buffer();
     let mut ends = [0usize; 4096];
     let mut room = io::large_buffer();
+    let mut held = io::large_buffer();
+    let mut marks = [0usize; 2048];
+    let mut lasts = [0usize; 4096];
     let scripts = front(bytes, n);
-    run_each(scripts, &mut window, &mut ends, &mut room, out)
+    run_each(
+        scripts,
+        &mut window,
+        &mut ends,
+        &mut room,
+        &mut held,
+        &mut marks,
+        &mut lasts,
+        out,
+    )
 }
 
-// All scripts, one after the other.
+// All scripts, one after the other. Held, marks and lasts are a set's: its bytes, two marks for each record, and its ends.
 fn run_each(
     bytes: &[u8],
     window: &mut [u8],
     ends: &mut [usize],
     room: &mut [u8],
+    held: &mut [u8; 65536],
+    marks: &mut [usize; 2048],
+    lasts: &mut [usize; 4096],
     out: &mut [u8; 65536],
 ) -> usize {
     let mut at = 0;
@@ -72,7 +91,18 @@ fn run_each(
         if bytes.len() <= place {
             return at;
         }
-        let progress = run_one(bytes, place, window, ends, room, out, at);
+        let progress = run_one(
+            bytes,
+            place,
+            window,
+            ends,
+            room,
+            held,
+            marks,
+            lasts,
+            out,
+            at,
+        );
         at = progress.at;
         place = progress.place;
         if !progress.good {
@@ -89,6 +119,9 @@ fn run_one(
     window: &mut [u8],
     ends: &mut [usize],
     room: &mut [u8],
+    held: &mut [u8; 65536],
+    marks: &mut [usize; 2048],
+    lasts: &mut [usize; 4096],
     out: &mut [u8; 65536],
     at: usize,
 ) -> Progress {
@@ -108,7 +141,7 @@ fn run_one(
     let table = &mut ends[..slots];
     fill(part, 0);
     clear(table);
-    run_script(bytes, place, part, table, room, out, at)
+    run_script(bytes, place, part, table, room, held, marks, lasts, out, at)
 }
 
 fn bad(place: usize, at: usize) -> Progress {
@@ -146,6 +179,11 @@ fn policy_of(script: &[u8]) -> Policy {
     }
 }
 
+fn input_of<'a>(script: &'a [u8]) -> &'a [u8] {
+    let length = number_at(script, 52, 4) as usize;
+    front(behind(script, 56), length)
+}
+
 // The script at a place, with its setup over window and table.
 fn run_script(
     bytes: &[u8],
@@ -153,19 +191,32 @@ fn run_script(
     window: &mut [u8],
     ends: &mut [usize],
     room: &mut [u8],
+    held: &mut [u8; 65536],
+    marks: &mut [usize; 2048],
+    lasts: &mut [usize; 4096],
     out: &mut [u8; 65536],
     at: usize,
 ) -> Progress {
     let script = behind(bytes, place);
     let capacity = number_at(script, 4, 8) as usize;
-    let length = number_at(script, 52, 4) as usize;
-    let input = front(behind(script, 56), length);
-    let calls = plus(place, plus(56, length));
-    let policy = policy_of(script);
-    match Reader::new(capacity, policy, window, ends) {
+    let input = input_of(script);
+    let calls = plus(place, plus(56, input.len()));
+    match Reader::new(capacity, policy_of(script), window, ends) {
         Setup::Made(reader) => {
             let run = begin(reader, put_text(out, at, b"made\n"));
-            run_calls(run, bytes, calls, input, window, ends, room, out)
+            run_calls(
+                run,
+                bytes,
+                calls,
+                input,
+                window,
+                ends,
+                room,
+                held,
+                marks,
+                lasts,
+                out,
+            )
         }
         Setup::Refused => {
             let told = put_text(out, at, b"refused 1\n");
@@ -174,14 +225,20 @@ fn run_script(
     }
 }
 
-// A run of a reader just made: nothing was asked.
+// A run of a reader just made: nothing was asked, and no set read.
 fn begin(reader: Reader, at: usize) -> Run {
     let ask = Ask {
         place: WindowOffset(0),
         room: 0,
         offset: InputOffset(0),
     };
-    Run { reader, ask, at }
+    let last = no_set();
+    Run {
+        reader,
+        ask,
+        last,
+        at,
+    }
 }
 
 // The calls from a place on: their count, and each of them.
@@ -193,6 +250,9 @@ fn run_calls(
     window: &mut [u8],
     ends: &mut [usize],
     room: &mut [u8],
+    held: &mut [u8; 65536],
+    marks: &mut [usize; 2048],
+    lasts: &mut [usize; 4096],
     out: &mut [u8; 65536],
 ) -> Progress {
     let mut run = first;
@@ -204,35 +264,55 @@ fn run_calls(
         if end == usize::MAX {
             return bad(place, run.at);
         }
-        run = call_at(run, bytes, place, end, input, window, ends, room, out);
+        run = call_at(
+            run,
+            front(bytes, end),
+            place,
+            input,
+            window,
+            ends,
+            room,
+            held,
+            marks,
+            lasts,
+            out,
+        );
         place = end;
     }
     done(place, out, run.at)
 }
 
-// The call from a place up to its end.
+// The call from a place up to the end of the bytes.
 fn call_at(
     run: Run,
     bytes: &[u8],
     place: usize,
-    end: usize,
     input: &[u8],
     window: &mut [u8],
     ends: &mut [usize],
     room: &mut [u8],
+    held: &mut [u8; 65536],
+    marks: &mut [usize; 2048],
+    lasts: &mut [usize; 4096],
     out: &mut [u8; 65536],
 ) -> Run {
-    let operands = behind(front(bytes, end), plus(place, 1));
-    call(
-        run,
-        byte_at(bytes, place, 0),
-        operands,
-        input,
-        window,
-        ends,
-        room,
-        out,
-    )
+    let operands = behind(bytes, plus(place, 1));
+    let code = byte_at(bytes, place, 0);
+    if is_about_sets(code) {
+        return call_set(
+            run,
+            code,
+            operands,
+            window,
+            ends,
+            held,
+            marks,
+            lasts,
+            room,
+            out,
+        );
+    }
+    call(run, code, operands, input, window, ends, room, out)
 }
 
 // The calls of a script whose setup was refused are passed over.

@@ -23,7 +23,18 @@ pub(crate) fn write_record(
         return from;
     }
     let room = &mut space[..length];
-    match write_into(reader, operands, window, ends, room) {
+    let wrote = write_into(reader, operands, window, ends, room);
+    put_rewrote(wrote, room, out, from)
+}
+
+// What a writer answers, of which the room holds the text.
+pub(crate) fn put_rewrote(
+    wrote: Rewrote,
+    room: &[u8],
+    out: &mut [u8; 65536],
+    from: usize,
+) -> usize {
+    match wrote {
         Rewrote::Done(n) => put_part(out, from, b"wrote", front(room, n)),
         Rewrote::NoRecord => put_text(out, from, b"refused 7\n"),
         Rewrote::Wrap => put_text(out, from, b"refused 10\n"),

@@ -1,7 +1,11 @@
 // Scripts: their numbers, and how long each call is.
 
-// The most that a scratch or a writer's room may have.
+// The most that a scratch, a writer's room or a set's bytes may have, and the most records and ends of a set.
 const ROOM: u64 = 65536;
+
+const RECORDS: u64 = 1024;
+
+const ENDS: u64 = 4096;
 
 // Byte i behind a place, 0 behind the bytes' end.
 pub(crate) fn byte_at(bytes: &[u8], place: usize, i: usize) -> u8 {
@@ -80,8 +84,12 @@ fn operands(code: u8, bytes: &[u8]) -> usize {
         1 | 4 | 10 => 0,
         2 | 11 => 8,
         3 => 16,
+        5 => set_len(bytes),
         6 => limited(5, bytes, 9, 13),
         7 => limited(2, bytes, 9, 13),
+        8 => plus(4, limited(5, behind(bytes, 4), 9, 13)),
+        9 => plus(4, limited(2, behind(bytes, 4), 9, 13)),
+        12 => 4,
         13 => limited(9, bytes, 21, free_len(bytes)),
         14 => limited(8, bytes, 9, 9),
         15 => 12,
@@ -98,6 +106,20 @@ fn limited(most: u8, bytes: &[u8], room: usize, length: usize) -> usize {
         return usize::MAX;
     }
     length
+}
+
+// The length of the operands of a set's read, where the room that they name is within its limits.
+fn set_len(bytes: &[u8]) -> usize {
+    if ROOM < number_at(bytes, 0, 4) {
+        return usize::MAX;
+    }
+    if RECORDS < number_at(bytes, 4, 4) {
+        return usize::MAX;
+    }
+    if ENDS < number_at(bytes, 8, 4) {
+        return usize::MAX;
+    }
+    12
 }
 
 // The length of a free writer's operands.

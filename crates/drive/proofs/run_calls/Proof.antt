@@ -1,16 +1,17 @@
 -- Each turn takes one of the calls; the lengths of what is lent stay. Assumes nothing.
 use borrow.Author.Needs.{needs}
 use lib.ListN.{length}
-use mathlib.Core.Path.{_≡_}
+use mathlib.Core.Path.{_≡_, _∙_}
+use native.Mathlib.Omega.{arith}
 use Rattle.drive.proofs.run_calls.Statement.{statement}
 use Rattle.drive.proofs.run_calls.Tie as tie
 
 abbrev Inv-loop : tie.InvT-loop
-Inv-loop bytes from input window₀ ends₀ room₀ out₀ run₀ place₀ left₀ window ends room out run place left =
+Inv-loop bytes from input window₀ ends₀ room₀ held₀ marks₀ lasts₀ out₀ run₀ place₀ left₀ window ends room held marks lasts out run place left =
     (length window ≡ length window₀) × ((length ends ≡ length ends₀) × (length room ≡ length room₀))
 
 abbrev μ-loop : tie.MeasureT-loop
-μ-loop bytes from input window₀ ends₀ room₀ out₀ run₀ place₀ left₀ window ends room out run place left =
+μ-loop bytes from input window₀ ends₀ room₀ held₀ marks₀ lasts₀ out₀ run₀ place₀ left₀ window ends room held marks lasts out run place left =
     left
 
 plus-requires : tie.Need-plus-requires Inv-loop μ-loop
@@ -43,14 +44,20 @@ same-length-3 c = search needs
 returns : tie.Need-returns Inv-loop μ-loop
 returns c = search needs
 
+front-requires : tie.Need-front-requires Inv-loop μ-loop
+front-requires c κs = search needs
+
 call-at-requires : tie.Need-call-at-requires Inv-loop μ-loop
 call-at-requires c κs = search needs
 
 loop-less : tie.Need-loop-less Inv-loop μ-loop
-loop-less c = search needs
+loop-less c = omega (arith, c .before .before .before .before .before .before .before .before .before .before .before .before .before .before .before .before .before .loop-test .taken)
 
 loop-again : tie.Need-loop-again Inv-loop μ-loop
-loop-again c = search needs
+loop-again c =
+    let C = c .before .before .before .before .before .before .call-at in
+    let I = c .before .before .before .before .before .before .before .before .before .before .before .before .before .before .before .before .before .before .loop .inv in
+    (C .kept .1 .1 .1 .1 .0 ∙ I .0, (C .kept .1 .1 .1 .1 .1 .0 ∙ I .1 .0, C .kept .1 .1 .1 .1 .1 .1 .0 ∙ I .1 .1))
 
 done-requires : tie.Need-done-requires Inv-loop μ-loop
 done-requires c κs = search needs
@@ -83,6 +90,7 @@ run-calls-spec =
     same-length-2
     same-length-3
     returns
+    front-requires
     call-at-requires
     loop-less
     loop-again

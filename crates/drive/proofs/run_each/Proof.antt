@@ -6,11 +6,11 @@ use Rattle.drive.proofs.run_each.Statement.{statement}
 use Rattle.drive.proofs.run_each.Tie as tie
 
 abbrev Inv-loop : tie.InvT-loop
-Inv-loop bytes window₀ ends₀ room₀ out₀ at₀ place₀ turns₀ t10 window ends room out at place turns =
+Inv-loop bytes window₀ ends₀ room₀ held₀ marks₀ lasts₀ out₀ at₀ place₀ turns₀ t10 window ends room held marks lasts out at place turns =
     (length window ≡ length window₀) × ((length ends ≡ length ends₀) × (length room ≡ length room₀))
 
 abbrev μ-loop : tie.MeasureT-loop
-μ-loop bytes window₀ ends₀ room₀ out₀ at₀ place₀ turns₀ t10 window ends room out at place turns =
+μ-loop bytes window₀ ends₀ room₀ held₀ marks₀ lasts₀ out₀ at₀ place₀ turns₀ t10 window ends room held marks lasts out at place turns =
     turns
 
 loop-holds : tie.Need-loop-holds Inv-loop μ-loop
