@@ -1,16 +1,14 @@
 -- The policy of each kind, and what growth and setup come to once the policy is known. Assumes nothing.
 use Prim.Native.Nat.{ℕ}
-use mathlib.Core.Bool.{Bool, true, false}
+use mathlib.Core.Bool.{true, false}
 use mathlib.Core.Option.{Option, none, some}
 use mathlib.Core.Path.{_≡_, sym, ap, _∙_}
 use borrow.Author.Tests.{eq-eqb, ne-eqb}
 use Rattle.growth.specs.Growth.{grown}
 use Rattle.growth.specs.declared.Policy.{Policy}
 use Rattle.growth.specs.declared.Policy.the-variants.{StdPolicy, DoubleUntil, DoubleUntilLimited}
-use Rattle.reader.specs.Calls.{made}
-use Rattle.reader.specs.declared.state.Reader.{Reader}
 use Rattle.reader.proofs.CallLaws.{Fitting, setup-made, setup-refused}
-use Rattle.edge.specs.Edge.{policyOf, grownBy, Grew, grew, GrowIs, setupBy, setupNumber, SetupIs}
+use Rattle.edge.specs.Edge.{policyOf, grownBy, grew, GrowIs, setupBy, setupNumber, SetupIs}
 
 module _ (kind n limit : ℕ) where
   pub kind-std : kind ≡ 0 → some StdPolicy ≡ policyOf kind n limit

@@ -2,14 +2,14 @@
 -- Assumes nothing.
 use Prim.Native.Nat.{ℕ, suc, _+_, _-_, _/_, _%_, _≤_, _<_}
 use native.Mathlib.Omega.{arith}
-use mathlib.Core.Path.{_≡_, refl, sym, ap, _∙_}
+use mathlib.Core.Path.{_≡_, sym, ap, _∙_}
 use mathlib.Core.List.{List, [], _∷_, _++_, append-assoc}
 use lib.ListN.{length, take, drop, set, length-append}
 use lib.Seq.{set-split, length-take-le, take-append-le, take-take, drop-at}
 use Rattle.scan.specs.Move.{pasted}
 use Rattle.scan.proofs.Paste.{pasted-room, length-pasted}
 use Rattle.write.specs.Listing.{decimal}
-use Rattle.rows.proofs.Digits.{decimal-few, decimal-more, digits-few, digits-more}
+use Rattle.rows.proofs.Digits.{decimal-few, decimal-more, digits-more}
 
 pub stored : (at x : ℕ) (out : List ℕ) → at < length out → set out at x ≡ pasted at (x ∷ []) out
 stored at x out h =

@@ -10,7 +10,7 @@ use mathlib.Core.Path.{_≡_, refl, sym, ap, subst, _∙_}
 use native.Mathlib.Decide.{decLe}
 use lib.ListN.{length, take, drop, set, length-append, length-set}
 use lib.Seq.{length-take-le}
-use lib.Dec.{eqb, leb}
+use lib.Dec.{eqb}
 use borrow.Author.Tests.{eqb-true, leb-true, leb-false}
 use Rattle.meaning.specs.Due as meant
 use Rattle.meaning.specs.Due.{dueBy}
@@ -26,7 +26,7 @@ use Rattle.reader.specs.declared.state.Reader.{Reader}
 use Rattle.reader.specs.declared.state.Phase.{Phase}
 use Rattle.reader.specs.declared.state.Phase.the-variants as phase
 use Rattle.reader.specs.State.{Good, byteOf, isCurrent}
-use Rattle.reader.specs.Read.{Said, gives, ends, refuses, asks, reached, searches, passed}
+use Rattle.reader.specs.Read.{Said, gives, ends, refuses, reached, searches, passed}
 use Rattle.reader.specs.Look.{Seen, whole, unfinished, over, denied, Looked, lookedTo, looksBehind, lookOf, putBackOf}
 use Rattle.reader.proofs.Sanity.{and-true, sane-true}
 use Rattle.reader.proofs.ReadLaws.{lent-true}
@@ -35,13 +35,13 @@ use Rattle.reader.proofs.LookLaws.{shut-full, shut-more, to-told, to-not, on-fo
 use Rattle.set.specs.Set.{endsBefore}
 use Rattle.set.specs.Read.{Gathered, gatheredBy, fits, put, back, isWhole, gather}
 use Rattle.set.proofs.Gathering.{gather-stops, gather-full, gather-misfit, gather-on}
-use Rattle.runs.proofs.Tells.{Dues, judge, unlessOver, atSought, fromHere, endsOf, dueSearched, dueIn, dueTo, later, isWindow, isTable, Rests, Tells, Holds, Says, Answers, Same}
-use Rattle.runs.proofs.Look.{Sees, isUnfinished, Looks, look-steps, put-back-tells, put-back-same, look-put-back}
+use Rattle.runs.proofs.Tells.{Dues, judge, unlessOver, atSought, fromHere, endsOf, dueSearched, dueIn, dueTo, later, isWindow, isTable, Rests, Tells, Holds, Says, Answers}
+use Rattle.runs.proofs.Look.{Sees, isUnfinished, Looks, look-steps, put-back-tells, look-put-back}
 use Rattle.runs.proofs.Begun.{at-rest}
 use Rattle.runs.proofs.Back.{Fresh, fresh-other, fresh-look, fresh-put-back}
 use Rattle.runs.proofs.SearchMarks.{ends-count}
 use Rattle.runs.proofs.Beyond.{Cut, Beyond, if-as, if-more}
-use Rattle.runs.proofs.SetTable.{Each, marks′, used-then, put-each}
+use Rattle.runs.proofs.SetTable.{Each, used-then, put-each}
 
 -- ---- what is due ends with something other than a record
 

@@ -1,20 +1,17 @@
 -- A record that is current, by its mark, stands in the window with the ends of its lines: so `position` is its place, and the views show it as
 -- the input's meaning has it. Assumes nothing.
-use Prim.Native.Nat.{ℕ, suc, _+_, _-_, _≤_}
+use Prim.Native.Nat.{ℕ, _+_, _≤_}
 use native.Mathlib.Omega.{arith}
-use mathlib.Core.Bool.{Bool, true, false}
-use mathlib.Core.List.{List, [], _∷_, map}
+use mathlib.Core.Bool.{true}
+use mathlib.Core.List.{List, []}
 use mathlib.Core.Option.{Option, some}
-use mathlib.Core.Path.{_≡_, refl, sym, ap, subst, _∙_}
-use lib.ListN.{length, getD, take, drop, length-drop}
-use lib.Seq.{length-take-le, drop-drop, drop-append-le, take-append-le, drop-cons}
-use lib.Dec.{eqb}
+use mathlib.Core.Path.{_≡_, sym, ap, subst, _∙_}
+use lib.ListN.{length, getD, take, drop}
+use lib.Seq.{length-take-le}
 use Rattle.meaning.specs.Input.{Rec}
 use Rattle.meaning.specs.Parts.{headOf, seqLines, seqOf, idOf, descOf}
 use Rattle.meaning.specs.OnePass.{Mark}
 use Rattle.meaning.proofs.OnePass.{cutOut}
-use Rattle.meaning.proofs.Ends.{endsAt, closing}
-use Rattle.meaning.proofs.Marks.{right-size}
 use Rattle.reader.specs.declared.state.Reader.{Reader}
 use Rattle.reader.specs.declared.state.Phase.the-variants as phase
 use Rattle.reader.specs.State.{isCurrent}

@@ -38,7 +38,7 @@ use Rattle.reader.specs.Read.{Said, gives, ends, refuses, does, asked, placed, 
 use Rattle.reader.proofs.ReadLaws.{closed-full, closed-more, room-moves, room-wider, room-none, hunt-over, hunt-goes, filled-told, filled-not, neither}
 use Rattle.reader.proofs.RiseLaws.{moved-taken}
 use Rattle.reader.proofs.Kept.{isSearching, goesOn, filled-bytes, finds, stops, found-behind}
-use Rattle.runs.proofs.Tells.{Dues, judge, unlessOver, fromHere, endsOf, dueSearched, dueIn, dueTo, isSought, isWindow, isTable, Told, Tells, later, Rests, restSays, Says, Answers, Goes, Step, Hunts}
+use Rattle.runs.proofs.Tells.{Dues, judge, unlessOver, fromHere, endsOf, dueSearched, dueIn, dueTo, isSought, isWindow, isTable, Told, Tells, later, Rests, restSays, Says, Answers, Step, Hunts}
 use Rattle.runs.proofs.Begun.{text-from, text-slid, at-rest, ready-full, step-as, window-fits, step-rests}
 use Rattle.runs.proofs.SearchMarks.{first, first-late, late-least, SeesBy, foundAt, sees, closes, endsIn, ends-more, ends-count}
 

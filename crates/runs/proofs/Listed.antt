@@ -7,7 +7,7 @@ use mathlib.Core.Bool.{Bool, true, false}
 use mathlib.Core.List.{List, [], _∷_, _++_}
 use mathlib.Core.Option.{Option, none, some}
 use mathlib.Core.Path.{_≡_, refl, sym, ap, subst, _∙_}
-use lib.ListN.{length, getD, take, drop, length-append, length-take, length-drop}
+use lib.ListN.{length, take, drop, length-append, length-take, length-drop}
 use lib.Seq.{length-take-le, take-at}
 use Rattle.growth.specs.declared.Policy.{Policy}
 use Rattle.growth.specs.Chain.{largest}
@@ -17,11 +17,10 @@ use Rattle.meaning.specs.Due as meant
 use Rattle.meaning.specs.Due.{due, dueBy, judged, place}
 use Rattle.scan.specs.Move.{pasted}
 use Rattle.scan.proofs.Paste.{pasted-room, length-pasted}
-use Rattle.write.specs.Listing.{rowOf, row, endText, refusedText, listing}
-use Rattle.reader.specs.declared.state.Reader.{Reader}
+use Rattle.write.specs.Listing.{rowOf, row, refusedText, listing}
 use Rattle.reader.specs.Read.{Said, asks, gives, ends, refuses}
 use Rattle.reader.specs.Calls.{Held, held, missing, currentOf}
-use Rattle.view.specs.View.{Shown, part, between, shownIn, lineOf}
+use Rattle.view.specs.View.{Shown, part, shownIn, lineOf}
 use Rattle.view.specs.View as view
 use Rattle.view.specs.Full.{Left, left, window, filled, joinedAt, wholeAt, fullIn, picked}
 use Rattle.view.specs.Full as full

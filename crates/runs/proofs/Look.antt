@@ -278,9 +278,6 @@ module _ (X : List ℕ) (C : ℕ) (r : Reader) (w e : List ℕ) (t : Tells X C r
   pub put-back-due : dueTo X C (putBackOf r) e ≡ fromStart X C r
   put-back-due = ap (λ (x : Reader). dueTo X C x e) back-is ∙ begun-due X C r e (r .mark .start .0) (r .mark .line)
 
-  pub put-back-same : Same r (putBackOf r)
-  put-back-same = subst (Same r) (sym back-is) (record { reaches = refl; end-told = refl; slots-are = refl; lent-is = refl })
-
 -- A record that a look saw and that is put back leaves due what was due before the look.
 pub look-put-back :
     (X : List ℕ) (C : ℕ) (r : Reader) (w e : List ℕ) → Tells X C r w e → r .phase ≡ phase.Current →

@@ -6,7 +6,7 @@ use native.Mathlib.Decide.{decLe}
 use native.Mathlib.Nat.{eq-or-lt-of-le}
 use native.Mathlib.Omega.{arith}
 use mathlib.Core.Bool.{Bool, true, false, cond, not, _&&_, false≢true}
-use mathlib.Core.List.{List, [], _∷_, _++_, map}
+use mathlib.Core.List.{List, [], _∷_, map}
 use mathlib.Core.Logic.{⊎-elim, inl, inr}
 use mathlib.Core.Option.{Option, none, some}
 use mathlib.Core.Path.{_≡_, refl, sym, ap, subst, _∙_}
@@ -28,16 +28,15 @@ use Rattle.reader.specs.declared.state.Phase.{Phase}
 use Rattle.reader.specs.declared.state.Phase.the-variants as phase
 use Rattle.reader.specs.State.{Good, byteOf, sane, lentAs, withFill, inPhase, isCurrent}
 use Rattle.reader.specs.Read.{Said, asks, gives, ends, refuses, Did, does, asked, placed, given, tooLong, tooMany, reached, movedToFront, makesRoom, closed, stopped, searches, hunted, beginsAt, passed, whenReady, behind, soughtAt, onward, led, ledTo, leadDropped, lasts, readIn, readOf}
-use Rattle.reader.specs.Calls.{Left, Place, at, nowhere, unknown, shownIn, placeOf, reportOf, seekOf}
+use Rattle.reader.specs.Calls.{Left, Place, at, nowhere, unknown, shownIn, reportOf, seekOf}
 use Rattle.reader.proofs.Sanity.{and-true, sane-true}
 use Rattle.reader.proofs.ReadLaws.{closed-full, closed-more, room-moves, room-wider, room-none, hunt-goes, filled-told, filled-not, waits, is-ready, behind-ended, behind-next, sought-mark, sought-astray, onward-waits, onward-goes, on-rising, searching-good, led-by, led-on, led-mark, led-refused, lead-over, lead-asks, lead-in, lead-begins, begins-good, passed-good, lent-true, neither, read-repeats, read-goes}
 use Rattle.reader.proofs.CallLaws.{place-shown}
 use Rattle.reader.proofs.Kept.{isSearching, Behind, begun-behind, filled-bytes, stops, kept-searched, kept-rising}
-use Rattle.runs.specs.Run.{State, state, Made, reading, setting, afterSet, Event, read, collected, brought, sought, refused, Run, begun, by-read, by-set, by-report, by-seek, by-refused-report, by-refused-seek}
+use Rattle.runs.specs.Run.{State, state, Made, reading, setting, afterSet, Event, read, collected, Run, begun, by-read, by-set, by-report, by-seek, by-refused-report, by-refused-seek}
 use Rattle.runs.specs.Position.{lastGiven, named, placeDue, nextRecord, bySet, positionAfter, Positions}
 use Rattle.runs.specs.Demand.{origin, answers, dueFrom}
 use Rattle.meaning.specs.Due as meant
-use Rattle.meaning.specs.OnePass.{Mark}
 use Rattle.meaning.proofs.Due.{saidOf}
 use Rattle.reader.specs.Look.{putBackOf}
 use Rattle.reader.proofs.LookLaws.{put-current}

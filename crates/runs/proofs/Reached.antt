@@ -33,7 +33,7 @@ use borrow.Author.Tests.{eq-eqb, ne-eqb}
 use Rattle.runs.proofs.Tells.{Dues, dueIn, dueTo, atSought, Tells, isWindow, isTable, Rests, later, Goes, Answers, Step}
 use Rattle.runs.proofs.Step.{steps, still-tells}
 use Rattle.runs.proofs.Calls.{taken, tells-report, due-report, rests-report, Sought, seeks, report-refused, seek-refused}
-use Rattle.runs.proofs.Back.{Fresh, read-backs, read-put-back, fresh-report, fresh-other, fresh-put-back}
+use Rattle.runs.proofs.Back.{Fresh, read-backs, fresh-report, fresh-other}
 use Rattle.runs.proofs.Gather.{Closed, closed-due, closed-then, later-record, recordsThen}
 use Rattle.runs.proofs.SetCall.{Holds, SetGoes, Sets, sets}
 use Rattle.runs.proofs.Fine.{AllFine, fine-later, after, fine-front, said-front, fine-sought, said-sought}
@@ -75,19 +75,6 @@ pub record Reached (X : List ℕ) (C T : ℕ) (h : List Event) (s : State) : Typ
   pub fine : AllFine X (dueTo X C (s .reader) (s .table))
   pub rests : Rests (s .reader)
   pub fresh : Fresh X C (s .reader) (s .table)
-
--- the same state after another history in which as much was heard
-with-history :
-    {X : List ℕ} {C T : ℕ} (h₁ h₂ : List Event) (s : State) → answers h₁ ≡ answers h₂ → origin h₁ ≡ origin h₂ → Reached X C T h₁ s → Reached X C T h₂ s
-with-history {X} {C} {T} h₁ h₂ s as-many from k =
-    record {
-      tells = k .tells;
-      slots-are = k .slots-are;
-      due-is = k .due-is ∙ (λ i. after (as-many i) (dueFrom X C T (from i)));
-      fine = k .fine;
-      rests = k .rests;
-      fresh = k .fresh;
-    }
 
 module _ (X : List ℕ) (C T : ℕ) where
   -- a read

@@ -2,15 +2,15 @@
 -- 2 to 5 are those of a read; and a refusal of the state or of the set leaves what is due. Assumes nothing.
 use Prim.Native.Nat.{ℕ, zero, suc, _+_, _≤_, _<_}
 use native.Mathlib.Omega.{arith}
-use mathlib.Core.Bool.{Bool, true, false, cond, _&&_, _||_, false≢true}
-use mathlib.Core.List.{List, [], _∷_, _++_}
+use mathlib.Core.Bool.{Bool, true, false, cond, _&&_, false≢true}
+use mathlib.Core.List.{List, [], _∷_}
 use mathlib.Core.Logic.{_⊎_, inl, inr}
 use mathlib.Core.Option.{Option, none, some, Option·none-ne-some, Option·some-injective}
 use mathlib.Core.Path.{_≡_, refl, sym, ap, subst, _∙_}
 use lib.ListN.{length, take, drop}
 use lib.Seq.{length-take-le, take-at}
 use Rattle.scan.proofs.Paste.{pasted-room, length-pasted}
-use lib.Dec.{eqb, ltb, leb}
+use lib.Dec.{eqb, ltb}
 use borrow.Author.Tests.{leb-true, leb-false, ltb-false, eq-eqb}
 use Rattle.meaning.specs.Due as meant
 use Rattle.meaning.specs.Due.{dueBy}
@@ -26,20 +26,20 @@ use Rattle.reader.specs.Read.{Said, asks, gives, ends, refuses, Did, readOf}
 use Rattle.reader.specs.Look.{putBackOf}
 use Rattle.reader.proofs.Sanity.{sane-true}
 use Rattle.reader.proofs.ReadLaws.{lent-true}
-use Rattle.reader.proofs.Kept.{goesOn, isSearching}
+use Rattle.reader.proofs.Kept.{goesOn}
 use Rattle.reader.proofs.LookLaws.{put-current}
 use Rattle.set.specs.declared.state.Set.{Set}
 use Rattle.set.specs.Set.{sound, endsBefore}
 use Rattle.set.specs.Read as set
 use Rattle.set.specs.Read.{Gathered, Called, fits, put, gather, pairs, emptied, leaves, refused12, filledWith, collectedIn, afterRead, setOf}
-use Rattle.runs.proofs.Tells.{Dues, judge, unlessOver, fromHere, endsOf, dueSearched, atSought, dueIn, dueTo, later, isWindow, isTable, Rests, Settled, Tells, Says, Answers, Goes, Same, Step}
+use Rattle.runs.proofs.Tells.{Dues, judge, unlessOver, fromHere, endsOf, atSought, dueIn, dueTo, later, isWindow, isTable, Rests, Settled, Tells, Says, Goes, Step}
 use Rattle.runs.proofs.Begun.{at-rest}
 use Rattle.runs.proofs.Step.{steps, still-tells}
 use Rattle.runs.proofs.Look.{put-back-tells}
 use Rattle.runs.proofs.Back.{Fresh, read-backs, read-put-back, fresh-put-back}
 use Rattle.runs.proofs.Beyond.{Beyond}
 use Rattle.runs.proofs.SetTable.{Each}
-use Rattle.runs.proofs.Gather.{closed-due, Given, given, recordsThen, AllBelow, marks-long, ends-long, Gathers, Going, puts, All, gathers-all}
+use Rattle.runs.proofs.Gather.{closed-due, Given, given, recordsThen, AllBelow, marks-long, ends-long, Going, puts, All, gathers-all}
 
 -- ---- a refusal that is due has a number of at most 5
 

@@ -4,13 +4,12 @@ use Prim.Native.Nat.{ℕ, zero, suc, _+_, _-_, _≤_, _<_}
 use native.Mathlib.Decide.{decLe}
 use native.Mathlib.Omega.{arith}
 use native.Mathlib.Nat.{eq-or-lt-of-le}
-use mathlib.Core.Bool.{Bool, true, false, cond, _&&_, _||_, false≢true}
-use mathlib.Core.List.{List, [], _∷_, _++_}
+use mathlib.Core.Bool.{Bool, true, false, cond, _&&_, false≢true}
+use mathlib.Core.List.{List, [], _∷_}
 use mathlib.Core.Logic.{_⊎_, inl, inr, ⊎-elim}
 use mathlib.Core.Option.{Option, none, some, Option·none-ne-some, Option·some-injective}
 use mathlib.Core.Path.{_≡_, refl, sym, ap, subst, _∙_}
-use lib.ListN.{length, take, drop}
-use lib.Seq.{drop-cons}
+use lib.ListN.{take, drop}
 use lib.Dec.{eqb, ltb}
 use borrow.Author.Tests.{eqb-true, eqb-false}
 use Rattle.meaning.specs.Due as meant
@@ -24,17 +23,16 @@ use Rattle.scan.proofs.SearchLaws.{Stopped}
 use Rattle.window.specs.Fill.{ready}
 use Rattle.window.specs.declared.fill.Fill.{Fill}
 use Rattle.reader.specs.declared.state.Reader.{Reader}
-use Rattle.reader.specs.declared.state.Phase.{Phase}
 use Rattle.reader.specs.declared.state.Phase.the-variants as phase
 use Rattle.reader.specs.State.{Good, byteOf, isCurrent}
 use Rattle.reader.specs.Read.{reached, searches, passed}
 use Rattle.reader.specs.Calls.{Place, at}
 use Rattle.reader.specs.Look.{Seen, whole, unfinished, over, denied, Looked, lookedTo, looksBehind, lookOf, putBackOf}
-use Rattle.reader.proofs.Sanity.{and-true, sane-true}
+use Rattle.reader.proofs.Sanity.{sane-true}
 use Rattle.reader.proofs.ReadLaws.{lent-true, passed-good}
 use Rattle.reader.proofs.Kept.{goesOn, begun-behind, filled-bytes, stops}
 use Rattle.reader.proofs.LookLaws.{shut-full, shut-more, to-told, to-not, on-found, look-over, look-waits, look-goes, look-behind, put-current}
-use Rattle.set.specs.Read.{Gathered, gatheredBy, fits, put, back, isWhole, gather}
+use Rattle.set.specs.Read.{Gathered, fits, put, back, isWhole, gather}
 use Rattle.set.proofs.Gathering.{gather-stops, gather-full, gather-misfit, gather-on}
 use Rattle.runs.specs.Position.{placeDue}
 use Rattle.runs.proofs.Tells.{Dues, judge, unlessOver, endsOf, dueSearched, dueTo, Tells}

@@ -1,16 +1,14 @@
 -- The tables of a set (01, module 6): a record that is put behind others stands there with its start and its ends, and the others stand as they
 -- stood. Assumes nothing.
 use Prim.Native.Nat.{ℕ, zero, suc, _+_, _-_, _≤_, _<_}
-use native.Mathlib.Decide.{decLe}
-use native.Mathlib.Nat.{eq-or-lt-of-le}
 use native.Mathlib.Omega.{arith}
 use mathlib.Core.List.{List, [], _∷_, _++_, map}
 use mathlib.Core.Path.{_≡_, refl, sym, ap, subst, _∙_}
-use lib.ListN.{length, getD, take, drop, set, length-set, length-append, length-drop}
-use lib.Seq.{take-take, length-take-le, take-at, drop-at, drop-append-le, take-append-le, drop-drop, getD-set-same}
+use lib.ListN.{length, getD, take, drop, set, length-set, length-drop}
+use lib.Seq.{take-take, length-take-le, take-at, drop-at, drop-append-le, take-append-le, getD-set-same}
 use Rattle.meaning.specs.OnePass.{Mark}
 use Rattle.scan.specs.Move.{pasted}
-use Rattle.scan.proofs.Paste.{pasted-room, length-pasted}
+use Rattle.scan.proofs.Paste.{pasted-room}
 use Rattle.set.specs.Set.{startOf, endsBefore, endsTo}
 
 -- a number elsewhere in a list

@@ -2,13 +2,12 @@
 -- place there; 11 and 12 come exactly when the table says, the rest is a read's. Assumes nothing.
 use Prim.Native.Nat.{ℕ, zero, suc, _+_, _-_, _≤_, _<_}
 use native.Mathlib.Omega.{arith}
-use mathlib.Core.Bool.{Bool, true, false, cond, _&&_, false≢true}
+use mathlib.Core.Bool.{true}
 use mathlib.Core.List.{List, [], _∷_, _++_, map}
 use mathlib.Core.Logic.{_⊎_, inl, inr}
 use mathlib.Core.Path.{_≡_, refl, sym, ap, subst, _∙_}
 use lib.ListN.{length, take, drop, length-map, length-drop}
 use lib.Seq.{length-take-le}
-use lib.Dec.{ltb, leb}
 use borrow.Author.Tests.{ltb-true, lt-ltb, le-leb}
 use Rattle.growth.specs.Chain.{largest}
 use Rattle.meaning.specs.Line.{lines}
@@ -20,7 +19,7 @@ use Rattle.meaning.proofs.Ends.{endsAt}
 use Rattle.meaning.proofs.Marks.{right-size, right-count}
 use Rattle.meaning.proofs.Due.{saidOf}
 use Rattle.reader.specs.declared.state.Reader.{Reader}
-use Rattle.reader.specs.Read.{Said, asks, gives, ends, refuses, Did, readOf}
+use Rattle.reader.specs.Read.{Said, gives, ends, refuses}
 use Rattle.reader.proofs.CallLaws.{Placed}
 use Rattle.view.proofs.Meaning.{Stands}
 use Rattle.set.specs.declared.state.Set.{Set}
@@ -30,14 +29,14 @@ use Rattle.set.specs.Read.{Called, Gathered, filledWith}
 use Rattle.set.proofs.Shown.{shows-at, writes-at, placed-there}
 use Rattle.runs.specs.Run.{State, setting, Event, reading, afterRead}
 use Rattle.runs.specs.Demand.{origin, answers, dueFrom, nth, Hears}
-use Rattle.runs.specs.Sets.{GivesAt, IfRecord, OrNone, linesDue, linesOf, LeftOut, Misfits, Refused, HearsSet, Sets}
-use Rattle.runs.proofs.Tells.{Dues, dueTo, later, Tells}
+use Rattle.runs.specs.Sets.{GivesAt, IfRecord, OrNone, linesDue, linesOf, LeftOut, Misfits, HearsSet, Sets}
+use Rattle.runs.proofs.Tells.{Dues, dueTo, Tells}
 use Rattle.runs.proofs.Fine.{Fine, AllFine, after}
-use Rattle.runs.proofs.Gather.{Closed, closed-due, closed-then, later-record, recordsThen, AllBelow, Given}
+use Rattle.runs.proofs.Gather.{Closed, closed-due, closed-then, later-record, recordsThen, AllBelow}
 use Rattle.runs.proofs.Beyond.{Cut, Beyond}
 use Rattle.runs.proofs.SetTable.{At, Each}
 use Rattle.runs.proofs.SetCall as call
-use Rattle.runs.proofs.SetCall.{Holds, Kind, of-state, of-bytes, asks-too, ends-too, refuses-too, misfits, holding, kind, few, sets}
+use Rattle.runs.proofs.SetCall.{Holds, Kind, of-state, of-bytes, asks-too, ends-too, refuses-too, misfits, holding, kind, sets}
 use Rattle.runs.proofs.SearchMarks.{ends-count}
 use Rattle.runs.proofs.Step.{still-tells}
 use Rattle.runs.proofs.Stood.{stands}

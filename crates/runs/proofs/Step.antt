@@ -12,14 +12,14 @@ use Rattle.reader.specs.declared.state.Reader.{Reader}
 use Rattle.reader.specs.declared.state.Phase.{Phase}
 use Rattle.reader.specs.declared.state.Phase.the-variants as phase
 use Rattle.reader.specs.State.{sane, lentAs, withFill, inPhase, endsRise}
-use Rattle.reader.specs.Read.{Said, ends, refuses, Did, does, asked, askFor, placed, whenReady, led, soughtAt, onward, behind, lasts, readIn, readOf}
+use Rattle.reader.specs.Read.{Said, ends, refuses, Did, does, asked, askFor, placed, whenReady, led, soughtAt, onward, lasts, readIn, readOf}
 use Rattle.reader.proofs.Sanity.{and-true, sane-true}
 use Rattle.reader.proofs.ReadLaws.{waits, is-ready, onward-waits, onward-goes, on-rising, searching-good, lent-true, read-repeats, read-goes}
 use Rattle.reader.proofs.Kept.{isSearching, kept-searched, kept-rising}
 use Rattle.meaning.specs.OnePass.{Mark}
 use Rattle.runs.proofs.Keeping.{by-read, read-good}
 use Rattle.runs.proofs.Begun.{at-rest, step-as, unready-told}
-use Rattle.runs.proofs.Tells.{Dues, dueSearched, dueIn, dueTo, later, Tells, Told, Rests, restSays, Settled, Says, Goes, Answers, Step}
+use Rattle.runs.proofs.Tells.{Dues, dueSearched, dueIn, dueTo, later, Tells, restSays, Settled, Says, Goes, Answers, Step}
 use Rattle.runs.proofs.Hunt.{hunts}
 use Rattle.runs.proofs.Lead.{leads}
 use Rattle.runs.proofs.Sought.{soughts, behinds}

@@ -113,27 +113,3 @@ module _ (s : List ℕ) where
       (λ i h k. absurd (omega (arith, line-end-past i h)))
       (λ i h e k. rw (line-end-found i h e) e)
       (λ i h e ih k. rw (line-end-next i h e) (ih (omega (arith, line-end-next i h e))))
-
-  -- and none before it
-  pub line-end-before : (i k : ℕ) → i ≤ k → k < lineEnd s i → getD s k 0 ≡ 10 → ⊥
-  line-end-before =
-      along (λ i. (k : ℕ) → i ≤ k → k < lineEnd s i → getD s k 0 ≡ 10 → ⊥)
-      (λ i h k from below e. omega (arith, line-end-past i h))
-      (λ i h f k from below e. omega (arith, line-end-found i h f))
-      (λ i h f ih k from below e. go i h f ih k from below e (decLe k i))
-    where
-      go :
-          (i : ℕ) →
-          i < length s →
-          (getD s i 0 ≡ 10 → ⊥) →
-          ((k : ℕ) → i + 1 ≤ k → k < lineEnd s (i + 1) → getD s k 0 ≡ 10 → ⊥) →
-          (k : ℕ) →
-          i ≤ k →
-          k < lineEnd s i →
-          getD s k 0 ≡ 10 →
-          Dec (k ≤ i) →
-          ⊥
-      go i h f ih k from below e (yes u) =
-          let q : i ≡ k = omega arith in
-          f (rw q e)
-      go i h f ih k from below e (no u) = ih k (omega arith) (omega (arith, line-end-next i h f)) e

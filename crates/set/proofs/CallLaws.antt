@@ -8,7 +8,7 @@ use mathlib.Core.Logic.{inl, inr}
 use mathlib.Core.Path.{_≡_, refl, ap, _∙_}
 use lib.ListN.{length}
 use lib.Dec.{eqb, leb}
-use borrow.Author.Tests.{leb-true, lt-leb, le-leb, lt-ltb, le-ltb}
+use borrow.Author.Tests.{leb-true, le-leb, lt-ltb, le-ltb}
 use Rattle.window.proofs.Laws.{same-test}
 use Rattle.reader.specs.declared.state.Reader.{Reader}
 use Rattle.reader.specs.State.{sane, lentAs, isCurrent}
@@ -40,16 +40,6 @@ half-bound ms =
 
 pub half-is : (ms : List ℕ) → pairs ms ≡ length ms / 2
 half-is ms = pairs-is (length ms / 2) ms (half-bound ms .0) (half-bound ms .1)
-
--- refusal 11 of a set
-module _ (s : Set) (bytes marks : ℕ) where
-  pub sound-filled : bytes < s .filled → sound s bytes marks ≡ false
-  unfolding sound
-  sound-filled h = rw (lt-leb (s .filled) bytes h)
-
-  pub sound-is : s .filled ≤ bytes → sound s bytes marks ≡ leb (s .count + s .count) marks
-  unfolding sound
-  sound-is h = rw (le-leb (s .filled) bytes h)
 
 -- the state of a reader is refused with 11, or it is not
 abbrev pub isTaken : Held → Bool

@@ -14,26 +14,7 @@ use Rattle.growth.proofs.Laws.{grown-within}
 use Rattle.scan.specs.Move.{movedDown}
 use Rattle.window.specs.declared.fill.Fill.{Fill}
 use Rattle.window.specs.Offset.{inputAt}
-use Rattle.window.specs.Fill.{
-  most,
-  HasRoom,
-  Sound,
-  sound,
-  unfilled,
-  askOf,
-  asking,
-  took,
-  ended,
-  unasked,
-  reported,
-  dropped,
-  slides,
-  slid,
-  slidWindow,
-  ofCapacity,
-  widenedTo,
-  emptied,
-}
+use Rattle.window.specs.Fill.{most, HasRoom, Sound, sound, unfilled, asking, took, ended, unasked, reported, dropped, slides, slid, slidWindow, ofCapacity, widenedTo, emptied}
 
 -- two tests are the same if each holds where the other does
 pub same-test : (t u : Bool) → (t ≡ true → u ≡ true) → (u ≡ true → t ≡ true) → t ≡ u
@@ -192,9 +173,6 @@ module _ (f : Fill) (s : Sound f) where
   shut : {A : Type 0} → false ≡ true → A
   shut e = absurd (not-both false e refl)
 
-  pub sound-ask : askOf f .offset ≡ inputAt (f .base .0 + f .filled)
-  sound-ask = input-fits-word (f .base .0) (f .filled) (s .input-fits)
-
   pub sound-asking : f .filled < f .capacity → Sound (asking true f)
   sound-asking h =
       record { filled-fits = s .filled-fits; capacity-fits = s .capacity-fits; ask-has-room = λ e. h; input-fits = s .input-fits }
@@ -210,10 +188,6 @@ module _ (f : Fill) (s : Sound f) where
   pub sound-took : (n : ℕ) → HasRoom n f → f .base .0 + f .filled + n ≤ most → Sound (took n f)
   sound-took n h k =
       record { filled-fits = h; capacity-fits = s .capacity-fits; ask-has-room = λ e. shut e; input-fits = omega arith }
-
-  pub sound-dropped : (n : ℕ) → n ≤ f .filled → Sound (asking false (dropped n f))
-  sound-dropped n h =
-      record { filled-fits = omega arith; capacity-fits = s .capacity-fits; ask-has-room = λ e. shut e; input-fits = omega arith }
 
   pub sound-slid : (n : ℕ) → n ≤ f .filled → slid n f ≡ dropped n f
   sound-slid n h = slid-inside f n h (s .input-fits)

@@ -5,10 +5,7 @@ use native.Mathlib.Omega.{arith}
 use mathlib.Core.Path.{_≡_, refl, ap}
 use mathlib.Core.List.{List, [], _∷_, _++_}
 use lib.ListN.{length, take, drop, length-drop}
-use mathlib.Core.Bool.{cond}
-use lib.Dec.{eqb}
-use Rattle.meaning.specs.Parts.{joined}
-use Rattle.write.specs.Text.{cutIn, cuts, ended, wrapSeqText, wrapSeqIterText}
+use Rattle.write.specs.Text.{cutIn, cuts, ended, wrapSeqText}
 
 -- what is left behind a cut is shorter
 shorter : (wrap n : ℕ) (x : ℕ) (xs : List ℕ) → 0 < wrap → length (x ∷ xs) ≤ suc n → length (drop wrap (x ∷ xs)) ≤ n
@@ -50,8 +47,3 @@ by-lines P wrap w none more seq = go (length seq) seq (omega arith)
     go zero (x ∷ xs) h = absurd (omega arith)
     go (suc n) [] h = none
     go (suc n) (x ∷ xs) h = more (x ∷ xs) (omega arith) (go n (drop wrap (x ∷ xs)) (shorter wrap n x xs w h))
-
--- lines are joined before they are cut: where one line ends and the next begins makes no difference
-pub iter-joined : (wrap : ℕ) (ls ks : List (List ℕ)) → joined ls ≡ joined ks → wrapSeqIterText wrap ls ≡ wrapSeqIterText wrap ks
-unfolding wrapSeqIterText
-iter-joined wrap ls ks e = ap (λ (s : List ℕ). cond (eqb (length s) 0) (10 ∷ []) (wrapSeqText wrap s)) e

@@ -1,7 +1,5 @@
 -- `tell_record` gives the number and the length of each answer. Assumes nothing.
-use mathlib.Core.List.{List}
 use mathlib.Core.Path.{sym, ap}
-use Prim.Native.Nat.{ℕ}
 use borrow.Author.Needs.{needs}
 use Rattle.rewrite.specs.Rewrite.{left}
 use Rattle.rewrite.specs.declared.Rewrote.{Rewrote}

@@ -1,7 +1,5 @@
 -- `tell` gives the number and the length of each answer. Assumes nothing.
-use mathlib.Core.List.{List}
 use mathlib.Core.Path.{sym, ap}
-use Prim.Native.Nat.{ℕ}
 use borrow.Author.Needs.{needs}
 use Rattle.write.specs.Output.{left}
 use Rattle.write.specs.declared.Wrote.{Wrote}

@@ -1,6 +1,5 @@
 -- The sum is the row's length, and no number has more than 20 digits. Assumes nothing.
 use native.Mathlib.Omega.{arith}
-use mathlib.Core.Path.{sym}
 use borrow.Author.Needs.{needs}
 use Rattle.rows.proofs.Digits.{digits-short}
 use Rattle.rows.proofs.Telling.{row-length}

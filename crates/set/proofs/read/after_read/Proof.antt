@@ -8,71 +8,54 @@ use borrow.Author.Needs.{needs}
 use Rattle.set.proofs.read.after_read.Statement.{statement}
 use Rattle.set.proofs.read.after_read.Tie as tie
 
--- src/read.rt:48:21
 enum-known-answer : tie.Need-enum-known-answer
 enum-known-answer c = search needs
 
--- src/read.rt:48:29
 leave-requires : tie.Need-leave-requires
 leave-requires c κs = search needs
 
--- src/read.rt:49:54
 enum-told : tie.Need-enum-told
 enum-told c = search needs
 
--- src/read.rt:49:30
 collect-requires : tie.Need-collect-requires
 collect-requires c κs = search needs
 
--- src/read.rt:50:43
 enum-told-2 : tie.Need-enum-told-2
 enum-told-2 c = search needs
 
--- src/read.rt:50:24
 leave-requires-2 : tie.Need-leave-requires-2
 leave-requires-2 c κs = search needs
 
--- src/read.rt:51:25
 enum-known-answer-2 : tie.Need-enum-known-answer-2
 enum-known-answer-2 c = search needs
 
--- src/read.rt:51:41
 leave-requires-3 : tie.Need-leave-requires-3
 leave-requires-3 c κs = search needs
 
--- src/read.rt:52:24
 enum-known-answer-3 : tie.Need-enum-known-answer-3
 enum-known-answer-3 c = search needs
 
--- src/read.rt:52:34
 leave-requires-4 : tie.Need-leave-requires-4
 leave-requires-4 c κs = search needs
 
--- src/read.rt:53:23
 enum-known-answer-4 : tie.Need-enum-known-answer-4
 enum-known-answer-4 c = search needs
 
--- src/read.rt:53:33
 leave-requires-5 : tie.Need-leave-requires-5
 leave-requires-5 c κs = search needs
 
--- src/read.rt:54:45
 enum-told-3 : tie.Need-enum-told-3
 enum-told-3 c = search needs
 
--- src/read.rt:54:26
 leave-requires-6 : tie.Need-leave-requires-6
 leave-requires-6 c κs = search needs
 
--- src/read.rt:55:26
 enum-told-4 : tie.Need-enum-told-4
 enum-told-4 c = search needs
 
--- src/read.rt:55:26
 refuse-state-requires : tie.Need-refuse-state-requires
 refuse-state-requires c κs = search needs
 
--- src/read.rt:42:1
 returns : tie.Need-returns
 returns c =
     let a = c .before .before .before .before .before .before .before .before .before .before .args in
@@ -83,23 +66,18 @@ returns c =
     let es = a .ends .now in
     c .leave .ensures w e bs ms es ∙ ap (answered (a .set) bs ms es (a .next .reader) w e) (sym (c .before .before .answer .given .1))
 
--- src/read.rt:42:1
 same-length : tie.Need-same-length
 same-length c = search needs
 
--- src/read.rt:42:1
 same-length-2 : tie.Need-same-length-2
 same-length-2 c = search needs
 
--- src/read.rt:42:1
 same-length-3 : tie.Need-same-length-3
 same-length-3 c = search needs
 
--- src/read.rt:42:1
 same-length-4 : tie.Need-same-length-4
 same-length-4 c = search needs
 
--- src/read.rt:42:1
 returns-2 : tie.Need-returns-2
 returns-2 c =
     let a = c .before .before .before .before .before .before .before .before .before .before .before .before .before .before .before .before .before .before .before .before .before .args in
@@ -110,7 +88,6 @@ returns-2 c =
     let es = a .ends .now in
     c .before .before .before .before .before .before .before .before .collect .ensures (saidBy (a .next .answer)) ∙ ap (λ (x : Answer). afterRead (a .set) bs ms es (saidBy x) (does (saidBy (a .next .answer)) (a .next .reader) w e)) (sym (c .before .before .before .before .before .before .before .before .before .before .before .before .before .enum-told .given .1))
 
--- src/read.rt:42:1
 returns-3 : tie.Need-returns-3
 returns-3 c =
     let a = c .before .before .before .before .before .before .before .before .before .args in
@@ -121,7 +98,6 @@ returns-3 c =
     let es = a .ends .now in
     c .leave2 .ensures w e bs ms es ∙ ap (answered (a .set) bs ms es (a .next .reader) w e) (sym (c .before .enum-told2 .given .1))
 
--- src/read.rt:42:1
 returns-4 : tie.Need-returns-4
 returns-4 c =
     let a = c .before .before .before .before .before .before .before .before .before .before .args in
@@ -132,7 +108,6 @@ returns-4 c =
     let es = a .ends .now in
     c .leave3 .ensures w e bs ms es ∙ ap (answered (a .set) bs ms es (a .next .reader) w e) (sym (c .before .before .answer2 .given .1))
 
--- src/read.rt:42:1
 returns-5 : tie.Need-returns-5
 returns-5 c =
     let a = c .before .before .before .before .before .before .before .before .before .before .args in
@@ -143,7 +118,6 @@ returns-5 c =
     let es = a .ends .now in
     c .leave4 .ensures w e bs ms es ∙ ap (answered (a .set) bs ms es (a .next .reader) w e) (sym (c .before .before .answer3 .given .1))
 
--- src/read.rt:42:1
 returns-6 : tie.Need-returns-6
 returns-6 c =
     let a = c .before .before .before .before .before .before .before .before .before .before .args in
@@ -154,7 +128,6 @@ returns-6 c =
     let es = a .ends .now in
     c .leave5 .ensures w e bs ms es ∙ ap (answered (a .set) bs ms es (a .next .reader) w e) (sym (c .before .before .answer4 .given .1))
 
--- src/read.rt:42:1
 returns-7 : tie.Need-returns-7
 returns-7 c =
     let a = c .before .before .before .before .before .before .before .before .before .args in
@@ -165,7 +138,6 @@ returns-7 c =
     let es = a .ends .now in
     c .leave6 .ensures w e bs ms es ∙ ap (answered (a .set) bs ms es (a .next .reader) w e) (sym (c .before .enum-told3 .given .1))
 
--- src/read.rt:42:1
 returns-8 : tie.Need-returns-8
 returns-8 c =
     let a = c .before .before .before .before .before .before .before .before .before .args in

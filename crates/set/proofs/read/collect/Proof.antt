@@ -15,15 +15,12 @@ use borrow.Author.Needs.{needs}
 use Rattle.set.proofs.read.collect.Statement.{statement}
 use Rattle.set.proofs.read.collect.Tie as tie
 
--- src/read.rt:229:22
 put-back-requires : tie.Need-put-back-requires
 put-back-requires c κs = search needs
 
--- src/read.rt:229:9
 leave-requires : tie.Need-leave-requires
 leave-requires c κs = search needs
 
--- src/read.rt:229:9
 returns : tie.Need-returns
 returns c =
     let a = c .before .before .before .before .before .before .before .before .args in
@@ -36,19 +33,15 @@ returns c =
     ∙ ap (λ (r : Reader). refused12 (a .set) bs ms es r w e) (c .before .put-back .ensures)
     ∙ sym (ap (λ (n : ℕ). collectedIn (a .set) bs ms es n (does s (a .reader) w e)) (half-is ms ∙ c .before .before .if1 .taken) ∙ collected-none (a .set) bs ms es (does s (a .reader) w e))
 
--- src/read.rt:231:9
 fits-requires : tie.Need-fits-requires
 fits-requires c κs = search needs
 
--- src/read.rt:232:22
 put-back-requires-2 : tie.Need-put-back-requires-2
 put-back-requires-2 c κs = search needs
 
--- src/read.rt:232:9
 leave-requires-2 : tie.Need-leave-requires-2
 leave-requires-2 c κs = search needs
 
--- src/read.rt:232:9
 returns-2 : tie.Need-returns-2
 returns-2 c =
     let a = c .before .before .before .before .before .before .before .before .before .before .args in
@@ -61,7 +54,6 @@ returns-2 c =
     ∙ ap (λ (r : Reader). refused12 (a .set) bs ms es r w e) (c .before .put-back2 .ensures)
     ∙ sym (ap (λ (n : ℕ). collectedIn (a .set) bs ms es n (does s (a .reader) w e)) (half-is ms) ∙ collected-misfit (a .set) bs ms es (does s (a .reader) w e) (length ms / 2) (failed (c .before .before .before .fits2 .ensures) (c .before .before .if2 .taken)))
 
--- src/read.rt:234:9
 put-requires : tie.Need-put-requires
 put-requires c κs =
     let a = c .before .before .before .before .before .before .before .before .before .before .before .args in
@@ -72,11 +64,9 @@ put-requires c κs =
       ends-fit = leb-true (0 + a .reader .mark .count) (length (a .ends .now)) (passed (c .before .before .before .before .fits2 .ensures) (c .before .before .before .if2 .left));
     }
 
--- src/read.rt:235:37
 sub-gather : tie.Need-sub-gather
 sub-gather c = search needs
 
--- src/read.rt:235:9
 gather-requires : tie.Need-gather-requires
 gather-requires c κs =
     let a = c .before .before .before .before .before .before .before .before .before .before .before .before .before .before .before .before .before .before .before .args in
@@ -89,31 +79,24 @@ gather-requires c κs =
     let es : length (p .last .1 .1 .1 .1 .1 .0) ≡ length (a .ends .now) = p .kept .1 .1 .1 .1 .1 .0 in
     (omega arith, omega arith)
 
--- src/read.rt:237:5
 copy-filled-requires : tie.Need-copy-filled-requires
 copy-filled-requires c κs = search needs
 
--- src/read.rt:238:5
 hold-requires : tie.Need-hold-requires
 hold-requires c κs = search needs
 
--- src/read.rt:224:1
 same-length : tie.Need-same-length
 same-length c = search needs
 
--- src/read.rt:224:1
 same-length-2 : tie.Need-same-length-2
 same-length-2 c = search needs
 
--- src/read.rt:224:1
 same-length-3 : tie.Need-same-length-3
 same-length-3 c = c .before .before .before .before .before .before .before .before .before .before .before .before .gather .kept .1 .1 .1 .1 .1 .0 ∙ c .before .before .before .before .before .before .before .before .before .before .before .before .before .before .before .before .before .before .before .before .put .kept .1 .1 .1 .1 .0
 
--- src/read.rt:224:1
 same-length-4 : tie.Need-same-length-4
 same-length-4 c = c .before .before .before .before .before .before .before .before .before .before .before .before .gather .kept .1 .1 .1 .1 .1 .1 .0 ∙ c .before .before .before .before .before .before .before .before .before .before .before .before .before .before .before .before .before .before .before .before .put .kept .1 .1 .1 .1 .1 .0
 
--- src/read.rt:224:1
 returns-3 : tie.Need-returns-3
 returns-3 c =
     let a = c .before .before .before .before .before .before .before .before .before .before .before .before .before .before .before .before .before .before .before .before .before .before .before .before .before .before .before .before .before .before .before .before .args in

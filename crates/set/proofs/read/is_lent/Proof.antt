@@ -7,37 +7,30 @@ use borrow.Author.Needs.{needs}
 use Rattle.set.proofs.read.is_lent.Statement.{statement}
 use Rattle.set.proofs.read.is_lent.Tie as tie
 
--- src/read.rt:198:9
 current-requires : tie.Need-current-requires
 current-requires c κs = search needs
 
--- src/read.rt:204:14
 enum-told : tie.Need-enum-told
 enum-told c = search needs
 
--- src/read.rt:205:26
 enum-told-2 : tie.Need-enum-told-2
 enum-told-2 c = search needs
 
--- src/read.rt:206:27
 enum-told-3 : tie.Need-enum-told-3
 enum-told-3 c = search needs
 
--- src/read.rt:195:1
 returns : tie.Need-returns
 returns c =
     let k = c .before .before in
     let a = k .before .args in
     ap (λ (x : Current). isTaken (heldBy x)) (sym (c .enum-told .given .1)) ∙ ap isTaken (k .current .ensures) ∙ taken-is (a .reader) (a .window) (a .table)
 
--- src/read.rt:195:1
 returns-2 : tie.Need-returns-2
 returns-2 c =
     let k = c .before .before in
     let a = k .before .args in
     ap (λ (x : Current). isTaken (heldBy x)) (sym (c .enum-told2 .given .1)) ∙ ap isTaken (k .current .ensures) ∙ taken-is (a .reader) (a .window) (a .table)
 
--- src/read.rt:195:1
 returns-3 : tie.Need-returns-3
 returns-3 c =
     let k = c .before .before in

@@ -8,15 +8,12 @@ use borrow.Author.Needs.{needs}
 use Rattle.set.proofs.read.next_set.Statement.{statement}
 use Rattle.set.proofs.read.next_set.Tie as tie
 
--- src/read.rt:28:9
 is-lent-requires : tie.Need-is-lent-requires
 is-lent-requires c κs = search needs
 
--- src/read.rt:29:9
 refuse-state-requires : tie.Need-refuse-state-requires
 refuse-state-requires c κs = search needs
 
--- src/read.rt:29:9
 returns : tie.Need-returns
 returns c =
     let a = c .before .before .before .before .before .before .before .before .args in
@@ -28,15 +25,12 @@ returns c =
     c .refuse-state .ensures w e bs ms es
     ∙ sym (set-untaken (a .set) bs ms es (a .reader) w e (failed (c .before .before .is-lent .ensures) (c .before .if1 .taken)))
 
--- src/read.rt:31:9
 is-sound-requires : tie.Need-is-sound-requires
 is-sound-requires c κs = search needs
 
--- src/read.rt:32:9
 refuse-state-requires-2 : tie.Need-refuse-state-requires-2
 refuse-state-requires-2 c κs = search needs
 
--- src/read.rt:32:9
 returns-2 : tie.Need-returns-2
 returns-2 c =
     let a = c .before .before .before .before .before .before .before .before .before .before .args in
@@ -48,11 +42,9 @@ returns-2 c =
     c .refuse-state2 .ensures w e bs ms es
     ∙ sym (set-unsound (a .set) bs ms es (a .reader) w e (failed (c .before .before .is-sound .ensures) (c .before .if2 .taken)))
 
--- src/read.rt:35:9
 leave-requires : tie.Need-leave-requires
 leave-requires c κs = search needs
 
--- src/read.rt:35:9
 returns-3 : tie.Need-returns-3
 returns-3 c =
     let a = c .before .before .before .before .before .before .before .before .before .before .before .args in
@@ -65,35 +57,27 @@ returns-3 c =
     let u = passed (c .before .before .before .is-sound .ensures) (c .before .before .if2 .left) in
     c .leave .ensures w e bs ms es ∙ sym (set-short (a .set) bs ms es (a .reader) w e t u (c .before .if3 .taken))
 
--- src/read.rt:37:9
 next-requires : tie.Need-next-requires
 next-requires c κs = search needs
 
--- src/read.rt:38:5
 after-read-requires : tie.Need-after-read-requires
 after-read-requires c κs = search needs
 
--- src/read.rt:25:1
 same-length : tie.Need-same-length
 same-length c = search needs
 
--- src/read.rt:25:1
 same-length-2 : tie.Need-same-length-2
 same-length-2 c = search needs
 
--- src/read.rt:25:1
 same-length-3 : tie.Need-same-length-3
 same-length-3 c = search needs
 
--- src/read.rt:25:1
 same-length-4 : tie.Need-same-length-4
 same-length-4 c = search needs
 
--- src/read.rt:25:1
 same-length-5 : tie.Need-same-length-5
 same-length-5 c = search needs
 
--- src/read.rt:25:1
 returns-4 : tie.Need-returns-4
 returns-4 c =
     let a = c .before .before .before .before .before .before .before .before .before .before .before .before .before .before .before .before .before .before .before .before .before .before .before .before .before .before .before .before .before .before .before .args in

@@ -4,8 +4,8 @@ use native.Mathlib.Omega.{arith}
 use mathlib.Core.Path.{sym}
 use borrow.Author.Tests.{lt-leb}
 use Rattle.set.proofs.CallLaws.{less-test}
-use Rattle.set.proofs.read.fits.Statement.{statement}
-use Rattle.set.proofs.read.fits.Tie as tie
+use Rattle.set.proofs.gather.fits.Statement.{statement}
+use Rattle.set.proofs.gather.fits.Tie as tie
 
 returns : tie.Need-returns
 returns c =

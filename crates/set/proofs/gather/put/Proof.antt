@@ -6,37 +6,30 @@ use mathlib.Core.Path.{ap}
 use lib.ListN.{set, length-set}
 use Rattle.set.specs.Read.{gathered}
 use borrow.Author.Needs.{needs}
-use Rattle.set.proofs.read.put.Statement.{statement}
-use Rattle.set.proofs.read.put.Tie as tie
-use Rattle.set.proofs.read.put.Reads as reads
-use Rattle.set.proofs.read.put.Lts as lts
-use Rattle.set.proofs.read.copy_ends.Reads as copy-ends-reads
+use Rattle.set.proofs.gather.put.Statement.{statement}
+use Rattle.set.proofs.gather.put.Tie as tie
+use Rattle.set.proofs.gather.put.Reads as reads
+use Rattle.set.proofs.gather.put.Lts as lts
+use Rattle.set.proofs.copies.copy_ends.Reads as copy-ends-reads
 
--- src/read.rt:43:14
 add-at : tie.Need-add-at
 add-at c = search needs
 
--- src/read.rt:44:14
 add-to : tie.Need-add-to
 add-to c = search needs
 
--- src/read.rt:45:5
 mul-marks : tie.Need-mul-marks
 mul-marks c = search needs
 
--- src/read.rt:45:5
 slice-write-marks : tie.Need-slice-write-marks
 slice-write-marks c = search needs
 
--- src/read.rt:46:11
 add-marks : tie.Need-add-marks
 add-marks c = search needs
 
--- src/read.rt:46:5
 mul-marks-2 : tie.Need-mul-marks-2
 mul-marks-2 c = search needs
 
--- src/read.rt:46:5
 slice-write-marks-2 : tie.Need-slice-write-marks-2
 slice-write-marks-2 c =
     let S = c .before .before .before .before .before in
@@ -44,19 +37,15 @@ slice-write-marks-2 c =
     let h = S .pre .marks-fit in
     omega (arith, length-set (a .marks .now) (a .count + a .count) (a .reader .mark .start .0))
 
--- src/read.rt:47:5
 copy-ends-requires : tie.Need-copy-ends-requires
 copy-ends-requires c κs = search needs
 
--- src/read.rt:38:1
 same-length : tie.Need-same-length
 same-length c = search needs
 
--- src/read.rt:38:1
 same-length-2 : tie.Need-same-length-2
 same-length-2 c = search needs
 
--- src/read.rt:38:1
 returns : tie.Need-returns
 returns c =
     let a = c .before .before .before .before .before .before .before .before .before .args in

@@ -7,8 +7,8 @@ use mathlib.Core.List.{List}
 use lib.ListN.{length, getD, set}
 use lib.Seq.{paste, paste-zero, paste-suc, length-paste}
 use Rattle.scan.proofs.Paste.{paste-all, pasted-full}
-use Rattle.set.proofs.read.paste_ends.Statement.{statement}
-use Rattle.set.proofs.read.paste_ends.Tie as tie
+use Rattle.set.proofs.copies.paste_ends.Statement.{statement}
+use Rattle.set.proofs.copies.paste_ends.Tie as tie
 
 abbrev Inv-loop : tie.InvT-loop
 Inv-loop src out₀ at i₀ out i = (i ≤ length src) × (out ≡ paste out₀ at src i) × (length out ≡ length out₀)

@@ -6,42 +6,35 @@ use mathlib.Core.Path.{sym, ap, _∙_}
 use lib.Seq.{length-take-le, take-all}
 use Rattle.scan.specs.Move.{pasted}
 use borrow.Author.Needs.{needs}
-use Rattle.set.proofs.read.copy_ends.Statement.{statement}
-use Rattle.set.proofs.read.copy_ends.Tie as tie
-use Rattle.set.proofs.read.copy_ends.Reads as reads
-use Rattle.set.proofs.read.copy_ends.Lts as lts
-use Rattle.set.proofs.read.paste_ends.Reads as paste-ends-reads
+use Rattle.set.proofs.copies.copy_ends.Statement.{statement}
+use Rattle.set.proofs.copies.copy_ends.Tie as tie
+use Rattle.set.proofs.copies.copy_ends.Reads as reads
+use Rattle.set.proofs.copies.copy_ends.Lts as lts
+use Rattle.set.proofs.copies.paste_ends.Reads as paste-ends-reads
 
--- src/read.rt:14:9
 paste-ends-requires : tie.Need-paste-ends-requires
 paste-ends-requires c κs = search needs
 
--- src/read.rt:16:20
 slice-aggregate-paste-ends : tie.Need-slice-aggregate-paste-ends
 slice-aggregate-paste-ends c =
     let a = c .before .before .before .before .args in
     sym (length-take-le (a .count) (a .table .now) (omega arith))
 
--- src/read.rt:16:9
 paste-ends-requires-2 : tie.Need-paste-ends-requires-2
 paste-ends-requires-2 c κs = search needs
 
--- src/read.rt:10:1
 same-length : tie.Need-same-length
 same-length c = search needs
 
--- src/read.rt:10:1
 returns : tie.Need-returns
 returns c =
     let a = c .before .before .before .before .before .before .before .args in
     c .before .before .paste-ends .ensures
     ∙ ap (λ (l : List ℕ). pasted (a .at) l (a .ends .now)) (sym (take-all (a .count) (a .table .now) (c .before .before .before .before .if1 .taken)))
 
--- src/read.rt:10:1
 same-length-2 : tie.Need-same-length-2
 same-length-2 c = search needs
 
--- src/read.rt:10:1
 returns-2 : tie.Need-returns-2
 returns-2 c = search needs
 

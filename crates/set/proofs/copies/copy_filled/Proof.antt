@@ -6,42 +6,35 @@ use mathlib.Core.Path.{sym, ap, _∙_}
 use lib.Seq.{length-take-le, take-all}
 use Rattle.scan.specs.Move.{pasted}
 use borrow.Author.Needs.{needs}
-use Rattle.set.proofs.read.copy_filled.Statement.{statement}
-use Rattle.set.proofs.read.copy_filled.Tie as tie
-use Rattle.set.proofs.read.copy_filled.Reads as reads
-use Rattle.set.proofs.read.copy_filled.Lts as lts
+use Rattle.set.proofs.copies.copy_filled.Statement.{statement}
+use Rattle.set.proofs.copies.copy_filled.Tie as tie
+use Rattle.set.proofs.copies.copy_filled.Reads as reads
+use Rattle.set.proofs.copies.copy_filled.Lts as lts
 use Rattle.scan.proofs.copy.Reads as copy-reads
 
--- src/read.rt:148:9
 copy-requires : tie.Need-copy-requires
 copy-requires c κs = search needs
 
--- src/read.rt:150:20
 slice-aggregate-copy : tie.Need-slice-aggregate-copy
 slice-aggregate-copy c =
     let a = c .before .before .before .before .args in
     sym (length-take-le (a .filled) (a .window .now) (omega arith))
 
--- src/read.rt:150:9
 copy-requires-2 : tie.Need-copy-requires-2
 copy-requires-2 c κs = search needs
 
--- src/read.rt:144:1
 same-length : tie.Need-same-length
 same-length c = search needs
 
--- src/read.rt:144:1
 returns : tie.Need-returns
 returns c =
     let a = c .before .before .before .before .before .before .before .args in
     c .before .before .copy .ensures
     ∙ ap (λ (l : List ℕ). pasted 0 l (a .bytes .now)) (sym (take-all (a .filled) (a .window .now) (c .before .before .before .before .if1 .taken)))
 
--- src/read.rt:144:1
 same-length-2 : tie.Need-same-length-2
 same-length-2 c = search needs
 
--- src/read.rt:144:1
 returns-2 : tie.Need-returns-2
 returns-2 c = search needs
 

@@ -11,8 +11,8 @@ use Rattle.reader.specs.Look.{seenBy}
 use Rattle.reader.proofs.Sanity.{passed, failed}
 use Rattle.set.specs.Read.{Gathered, gathered, gather}
 use Rattle.set.proofs.Gathering.{gather-stops, gather-full, gather-misfit, gather-on}
-use Rattle.set.proofs.read.gather.Statement.{statement}
-use Rattle.set.proofs.read.gather.Tie as tie
+use Rattle.set.proofs.gather.gather.Statement.{statement}
+use Rattle.set.proofs.gather.gather.Tie as tie
 
 abbrev Inv-loop : tie.InvT-loop
 Inv-loop lines room window table₀ marks₀ ends₀ reader₀ count₀ used₀ left₀ table marks ends reader count used left =
