@@ -1,20 +1,21 @@
 #!/usr/bin/env python3
 """Writes the gate's cases of `drive`: document 01's bench list at three capacities, its setups, T = 2, readers altered by hand, the
-writers, and sets.
+writers, sets, and behind these the stored vectors.
 
     python3 tests/drive_cases.py
 
 Writes crates/drive/stdin and crates/drive/stdout. The answers come from tests/compare/model.py, which is written from 01; each line that the
 bench list itself states is checked here besides, and so are the texts of a record's writers, and every answer about sets (01, module 6 and
-refusal 12) that is written out below.
+refusal 12) that is written out below. The answers to the vectors are the Rust's, from tests/vectors/answers.txt.
 """
 import os
 import sys
 
 sys.dont_write_bytecode = True
 ROOT = os.path.dirname(os.path.dirname(os.path.abspath(__file__)))
-sys.path.insert(0, os.path.join(ROOT, "tests", "compare"))
+sys.path[:0] = [os.path.join(ROOT, "tests", "compare"), os.path.join(ROOT, "tests", "vectors")]
 import model  # noqa: E402
+import stored  # noqa: E402
 
 VIEWS = [(6, what, 0, 64) for what in (0, 1, 2, 3, 5)]
 WINDOW = 65536
@@ -582,16 +583,23 @@ def most_room():
     return case
 
 
-def main():
+def written(vectors):
+    """The bytes of stdin and of stdout: the scripts below, those of the vectors, and last the one that ends the run."""
     cases = [case for capacity in (3, 4, WINDOW) for step in (None, 1) for case in bench(capacity, step)]
     for more in (growth, setups, tables, seeks, altered, writers, record_writers, sets):
         cases += more()
+    scripts = [(case.bytes(), [*case.lines, "done"]) for case in cases] + [stored.for_port(vector) for vector in vectors]
+    lines = [line for _, lines in scripts for line in lines]
+    return b"".join(script for script, _ in scripts) + UNKNOWN, "".join(line + "\n" for line in (*lines, "made", "bad script")).encode()
+
+
+def main():
+    vectors = stored.read(os.path.join(ROOT, "tests", "vectors", "answers.txt"))
     folder = os.path.join(ROOT, "crates", "drive")
-    with open(os.path.join(folder, "stdin"), "wb") as file:
-        file.write(b"".join(case.bytes() for case in cases) + UNKNOWN)
-    with open(os.path.join(folder, "stdout"), "w") as file:
-        file.write("".join("%s\n" % line for case in cases for line in (*case.lines, "done")) + "made\nbad script\n")
-    print("%d scripts, %d bytes" % (len(cases), sum(len(case.bytes()) for case in cases)))
+    for name, data in zip(("stdin", "stdout"), written(vectors)):
+        with open(os.path.join(folder, name), "wb") as file:
+            file.write(data)
+        print("%s: %d bytes" % (name, len(data)))
 
 
 if __name__ == "__main__":

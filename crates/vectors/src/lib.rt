@@ -1,0 +1,1 @@
+// Answers of the Rust as a table in specs/, which has no code.
