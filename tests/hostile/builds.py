@@ -117,8 +117,8 @@ def compare(root, proved, list_outcome, work, sample):
         for kind, count in sorted(builds.counts.items()):
             print("%8d  %s" % (count, kind))
         builds.show(8)
-    print("%d inputs and scripts, built at -O0, at -O3 and with assumptions checked or run on the interpreter: %d answered otherwise than by the proved "
-          "programs (%.0f s)" % (sum(builds.counts.values()), len(builds.found), time.monotonic() - began))
+    print("%d inputs and scripts for the programs built at -O0, at -O3 and with assumptions checked, or for the interpreter: "
+          "%d answered otherwise than by the proved programs (%.0f s)" % (sum(builds.counts.values()), len(builds.found), time.monotonic() - began))
     return not builds.found
 
 
@@ -132,8 +132,9 @@ def planted(root, proved, list_outcome, work):
             for run in work():
                 builds.compare(run)
             builds.interpret(Run("list", "interpreted", [SHOWS], 1))
-            by = collections.Counter("%s %s" % (run.program, build if build in bugs.BUILDS else "on the interpreter") for build, run in builds.found)
-            print("%s: %d differences in %d inputs and scripts" % (fault.what if fault else "no fault", len(builds.found), sum(builds.counts.values())))
+            by = collections.Counter(run.program + " " + (build if build in bugs.BUILDS else "on the interpreter") for build, run in builds.found)
+            what, given = fault.what if fault else "no fault", sum(builds.counts.values())
+            print("%s: %d differences in %d inputs and scripts" % (what, len(builds.found), given))
             for name, count in sorted(by.items()):
                 print("%8d  %s" % (count, name))
             builds.show(1)
