@@ -1,4 +1,5 @@
 -- Laws of the leaves: a turn of each loop, and what callers cite.
+pub mod BlockLaws
 pub mod LeadLaws
 pub mod LineLaws
 pub mod MoveLaws

@@ -2,6 +2,9 @@
 ghost use mathlib.Core.Path.{_≡_};
 ghost use Rattle.scan.specs.Scan.{TrimCr, LineEnd};
 ghost use Rattle.scan.specs.Search.{Lead, blank};
+use crate::blocks::any8;
+use crate::blocks::any32;
+use crate::moves::less;
 
 // A line without its trailing `\r`, if it has one: the line itself or the part before that `\r`.
 pub fn trim_cr<'a>(line: &'a [u8]) -> &'a [u8]
@@ -18,8 +21,37 @@ pub fn trim_cr<'a>(line: &'a [u8]) -> &'a [u8]
     line
 }
 
-// The place of the first `\n` at or behind `from`, or the end of the bytes.
+// The place of the first `\n` at or behind `from`, or the end of the bytes. Blocks of 32 bytes without a `\n` are passed at once, then blocks of
+// eight.
 pub fn line_end(bytes: &[u8], from: usize) -> usize
+    ensures { λ r. ⌜ LineEnd (now (bytes .entry)) from r ⌝ }
+{
+    let stop = less(bytes.len(), 31);
+    let mut i = from;
+    while i < stop {
+        if any32(bytes, i) {
+            return line_end_by_8(bytes, i);
+        }
+        i += 32;
+    }
+    line_end_by_8(bytes, i)
+}
+
+fn line_end_by_8(bytes: &[u8], from: usize) -> usize
+    ensures { λ r. ⌜ LineEnd (now (bytes .entry)) from r ⌝ }
+{
+    let stop = less(bytes.len(), 7);
+    let mut i = from;
+    while i < stop {
+        if any8(bytes, i) {
+            return line_end_by_1(bytes, i);
+        }
+        i += 8;
+    }
+    line_end_by_1(bytes, i)
+}
+
+fn line_end_by_1(bytes: &[u8], from: usize) -> usize
     ensures { λ r. ⌜ LineEnd (now (bytes .entry)) from r ⌝ }
 {
     let mut i = from;

@@ -33,7 +33,7 @@ pub fn move_ends(ends: &mut [usize], count: usize, by: usize)
 }
 
 // x less by, or 0 where by is larger
-fn less(x: usize, by: usize) -> usize
+pub(crate) fn less(x: usize, by: usize) -> usize
     ensures { λ r. ⌜ r ≡ x - by ⌝ }
 {
     if x < by { 0 } else { x - by }

@@ -1,30 +1,33 @@
--- `line_end` passes bytes that are no `\n`. The loop's invariant: the end from the present place is the end asked for. Assumes nothing.
+-- Blocks without a `\n` are passed. The loop's invariant: the end from the present place is the end asked for. Assumes nothing.
 use Prim.Native.Nat.{_-_}
 use native.Mathlib.Omega.{arith}
+use borrow.Author.Needs.{needs}
 use mathlib.Core.Path.{_≡_, refl, sym, _∙_}
 use lib.ListN.{length}
 use Rattle.scan.specs.Scan.{lineEnd}
-use Rattle.scan.proofs.LineLaws.{line-end-past, line-end-found, line-end-next}
 use Rattle.scan.proofs.line.line_end.Statement.{statement}
 use Rattle.scan.proofs.line.line_end.Tie as tie
 
 abbrev Inv-loop : tie.InvT-loop
-Inv-loop bytes from i₀ i = lineEnd bytes from ≡ lineEnd bytes i
+Inv-loop bytes from stop i₀ i = (stop ≡ length bytes - 31) × (lineEnd bytes from ≡ lineEnd bytes i)
 
 abbrev μ-loop : tie.MeasureT-loop
-μ-loop bytes from i₀ i = length bytes - i
+μ-loop bytes from stop i₀ i = stop - i
+
+less-requires : tie.Need-less-requires Inv-loop μ-loop
+less-requires c κs = search needs
 
 loop-holds : tie.Need-loop-holds Inv-loop μ-loop
-loop-holds c = refl
+loop-holds c = (c .less .ensures, refl)
 
-shared-slice-read-if1 : tie.Need-shared-slice-read-if1 Inv-loop μ-loop
-shared-slice-read-if1 c = omega arith
+any32-requires : tie.Need-any32-requires Inv-loop μ-loop
+any32-requires c κs = omega arith
+
+line-end-by-8-requires : tie.Need-line-end-by-8-requires Inv-loop μ-loop
+line-end-by-8-requires c κs = search needs
 
 returns : tie.Need-returns Inv-loop μ-loop
-returns c =
-    let at = c .before .before .before in
-    sym (at .loop .inv
-    ∙ line-end-found (at .before .args .bytes .now) (at .loop .i) (c .before .before .loop-test .taken) (c .if1 .taken))
+returns c = c .line-end-by-8 .ensures ∙ sym (c .before .before .before .before .loop .inv .1)
 
 add-i : tie.Need-add-i Inv-loop μ-loop
 add-i c = omega arith
@@ -34,14 +37,14 @@ loop-less c = omega arith
 
 loop-again : tie.Need-loop-again Inv-loop μ-loop
 loop-again c =
-    let at = c .before .before .before in
-    at .loop .inv
-    ∙ line-end-next (at .before .args .bytes .now) (at .loop .i) (c .before .before .loop-test .taken) (c .if1 .left)
+    let at = c .before .before .before .loop in
+    (at .inv .0, at .inv .1 ∙ c .before .any32 .ensures (c .if1 .left))
+
+line-end-by-8-requires-2 : tie.Need-line-end-by-8-requires-2 Inv-loop μ-loop
+line-end-by-8-requires-2 c κs = search needs
 
 returns-2 : tie.Need-returns-2 Inv-loop μ-loop
-returns-2 c =
-    let at = c .before in
-    sym (at .loop .inv ∙ line-end-past (at .before .args .bytes .now) (at .loop .i) (c .loop-test .left))
+returns-2 c = c .line-end-by-82 .ensures ∙ sym (c .before .before .loop .inv .1)
 
 pub line-end-spec : {M : Type 1} → statement M
 line-end-spec =
@@ -49,10 +52,13 @@ line-end-spec =
     (tie.spec
     Inv-loop
     μ-loop
+    less-requires
     loop-holds
-    shared-slice-read-if1
+    any32-requires
+    line-end-by-8-requires
     returns
     add-i
     loop-less
     loop-again
+    line-end-by-8-requires-2
     returns-2)
