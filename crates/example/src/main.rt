@@ -15,6 +15,7 @@ fn main() {
     let mut ends = [0usize; 4096];
     let mut scratch = io::large_buffer();
     let Setup::Made(reader) = Reader::new(Reader::DEFAULT, Policy::StdPolicy, &window, &ends) else {
+        tell(b"refusal ", 1);
         return;
     };
     run(reader, &mut window, &mut ends, &mut scratch);
@@ -36,6 +37,7 @@ fn run(first: Reader, window: &mut [u8], ends: &mut [usize], scratch: &mut [u8])
                 return;
             }
             let Reported::Taken(on) = reader.report(io::count(got, window)) else {
+                tell(b"refusal ", 6);
                 return;
             };
             reader = on;
@@ -91,8 +93,8 @@ fn close(answer: Answer) {
     }
 }
 
-fn tell(what: &[u8], line: u64) {
+fn tell(what: &[u8], number: u64) {
     io::write_all(STDERR_FILENO, what);
-    io::print_decimal(STDERR_FILENO, line);
+    io::print_decimal(STDERR_FILENO, number);
     io::write_all(STDERR_FILENO, b"\n");
 }

@@ -7,11 +7,11 @@ use Rattle.example.proofs.run.Statement.{statement}
 use Rattle.example.proofs.run.Tie as tie
 
 abbrev Inv-loop : tie.InvT-loop
-Inv-loop window₀ ends₀ scratch₀ reader₀ turns₀ t12 t13 window ends scratch reader turns =
+Inv-loop window₀ ends₀ scratch₀ reader₀ turns₀ t12 t13 t14 window ends scratch reader turns =
     (length window ≡ length window₀) × ((length ends ≡ length ends₀) × (length scratch ≡ length scratch₀))
 
 abbrev μ-loop : tie.MeasureT-loop
-μ-loop window₀ ends₀ scratch₀ reader₀ turns₀ t12 t13 window ends scratch reader turns = turns
+μ-loop window₀ ends₀ scratch₀ reader₀ turns₀ t12 t13 t14 window ends scratch reader turns = turns
 
 loop-holds : tie.Need-loop-holds Inv-loop μ-loop
 loop-holds c = search needs
@@ -55,14 +55,22 @@ report-requires c κs = search needs
 enum-known-on : tie.Need-enum-known-on Inv-loop μ-loop
 enum-known-on c = search needs
 
+slice-aggregate-tell : tie.Need-slice-aggregate-tell Inv-loop μ-loop
+slice-aggregate-tell c = search needs
+
+tell-requires : tie.Need-tell-requires Inv-loop μ-loop
+tell-requires c κs = search needs
+
 same-length-4 : tie.Need-same-length-4 Inv-loop μ-loop
 same-length-4 c = search needs
 
 same-length-5 : tie.Need-same-length-5 Inv-loop μ-loop
-same-length-5 c = search needs
+same-length-5 c =
+    let N = c .before .before .before .before .before .before .before .before .before .before .before .before .before .before .before .before .before .before .before in
+    N .next .kept .1 .1 .0 ∙ N .before .before .before .before .loop .inv .1 .0
 
 same-length-6 : tie.Need-same-length-6 Inv-loop μ-loop
-same-length-6 c = search needs
+same-length-6 c = c .before .before .before .before .before .before .before .before .before .before .before .before .before .before .before .before .before .before .before .before .before .before .before .loop .inv .1 .1
 
 returns-2 : tie.Need-returns-2 Inv-loop μ-loop
 returns-2 c = search needs
@@ -154,6 +162,8 @@ run-spec =
     count-requires
     report-requires
     enum-known-on
+    slice-aggregate-tell
+    tell-requires
     same-length-4
     same-length-5
     same-length-6
