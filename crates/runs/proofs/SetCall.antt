@@ -32,6 +32,7 @@ use Rattle.set.specs.declared.state.Set.{Set}
 use Rattle.set.specs.Set.{sound, endsBefore}
 use Rattle.set.specs.Read as set
 use Rattle.set.specs.Read.{Gathered, Called, fits, put, gather, pairs, emptied, leaves, refused12, filledWith, collectedIn, afterRead, setOf}
+use Rattle.runs.specs.Sets.{Taken}
 use Rattle.runs.proofs.Tells.{Dues, judge, unlessOver, fromHere, endsOf, atSought, dueIn, dueTo, later, isWindow, isTable, Rests, Settled, Tells, Says, Goes, Step}
 use Rattle.runs.proofs.Begun.{at-rest}
 use Rattle.runs.proofs.Step.{steps, still-tells}
@@ -142,14 +143,14 @@ valuesSaid (set.refuses n vs) = vs
 
 pub data Kind (s : Set) (B M E : List ℕ) (r : Reader) (w e : List ℕ) : Type 0 where
   of-state : sound s (length B) (length M) ≡ false → setOf s B M E r w e ≡ leaves s B M E (set.refuses 11 []) r w e s → Kind s B M E r w e
-  of-bytes : ltb (length B) (length w) ≡ true → setOf s B M E r w e ≡ refused12 s B M E r w e → Kind s B M E r w e
-  asks-too : (p m o : ℕ) → readOf r w e .said ≡ asks p m o → setOf s B M E r w e ≡ afterRead s B M E (asks p m o) (readOf r w e) → Kind s B M E r w e
-  ends-too : readOf r w e .said ≡ ends → setOf s B M E r w e ≡ afterRead s B M E ends (readOf r w e) → Kind s B M E r w e
-  refuses-too : (n : ℕ) (vs : List ℕ) → readOf r w e .said ≡ refuses n vs → setOf s B M E r w e ≡ afterRead s B M E (refuses n vs) (readOf r w e) → Kind s B M E r w e
+  of-bytes : sound s (length B) (length M) ≡ true → ltb (length B) (length w) ≡ true → setOf s B M E r w e ≡ refused12 s B M E r w e → Kind s B M E r w e
+  asks-too : Taken s (length B) (length M) (length w) → (p m o : ℕ) → readOf r w e .said ≡ asks p m o → setOf s B M E r w e ≡ afterRead s B M E (asks p m o) (readOf r w e) → Kind s B M E r w e
+  ends-too : Taken s (length B) (length M) (length w) → readOf r w e .said ≡ ends → setOf s B M E r w e ≡ afterRead s B M E ends (readOf r w e) → Kind s B M E r w e
+  refuses-too : Taken s (length B) (length M) (length w) → (n : ℕ) (vs : List ℕ) → readOf r w e .said ≡ refuses n vs → setOf s B M E r w e ≡ afterRead s B M E (refuses n vs) (readOf r w e) → Kind s B M E r w e
   misfits :
-      (l b : ℕ) → readOf r w e .said ≡ gives l b → (length M < 2) ⊎ (length E < readOf r w e .reader .mark .count) →
+      Taken s (length B) (length M) (length w) → (l b : ℕ) → readOf r w e .said ≡ gives l b → (length M < 2) ⊎ (length E < readOf r w e .reader .mark .count) →
       setOf s B M E r w e ≡ refused12 s B M E (putBackOf (readOf r w e .reader)) (readOf r w e .window) (readOf r w e .table) → Kind s B M E r w e
-  holding : (l b : ℕ) → readOf r w e .said ≡ gives l b → (g : Gathered) → setOf s B M E r w e ≡ filledWith s B M E (readOf r w e) g → Kind s B M E r w e
+  holding : Taken s (length B) (length M) (length w) → (l b : ℕ) → readOf r w e .said ≡ gives l b → (g : Gathered) → setOf s B M E r w e ≡ filledWith s B M E (readOf r w e) g → Kind s B M E r w e
 
 -- ---- what a set call does to what is due
 
@@ -282,24 +283,24 @@ module _ (X : List ℕ) (C : ℕ) (r : Reader) (w e : List ℕ) (t : Tells X C r
       pairs-none (x ∷ []) is = omega arith
       pairs-none (x ∷ y ∷ ms) is = absurd (omega arith)
 
-      collects : (l b : ℕ) → d .said ≡ gives l b → (room : ℕ) → pairs M ≡ room → c ≡ collectedIn s B M E room d → Kind s B M E r w e
-      collects l b q zero left is = misfits l b q (inl (pairs-none M left)) is
-      collects l b q (suc room) left is = fitting (fits (begun l b q)) refl
+      collects : Taken s (length B) (length M) (length w) → (l b : ℕ) → d .said ≡ gives l b → (room : ℕ) → pairs M ≡ room → c ≡ collectedIn s B M E room d → Kind s B M E r w e
+      collects taken l b q zero left is = misfits taken l b q (inl (pairs-none M left)) is
+      collects taken l b q (suc room) left is = fitting (fits (begun l b q)) refl
         where
           fitting : (u : Bool) → fits (begun l b q) ≡ u → Kind s B M E r w e
-          fitting true u = holding l b q (gather room (d .window) (put (begun l b q))) (is ∙ rw u refl)
-          fitting false u = misfits l b q (inr (omega (arith, leb-false (0 + d .reader .mark .count) (length E) u))) (is ∙ rw u refl)
+          fitting true u = holding taken l b q (gather room (d .window) (put (begun l b q))) (is ∙ rw u refl)
+          fitting false u = misfits taken l b q (inr (omega (arith, leb-false (0 + d .reader .mark .count) (length E) u))) (is ∙ rw u refl)
 
-      by-said : (a : Said) → d .said ≡ a → c ≡ afterRead s B M E a d → Kind s B M E r w e
-      by-said (asks p m o) q is = asks-too p m o q is
-      by-said ends q is = ends-too q is
-      by-said (refuses n vs) q is = refuses-too n vs q is
-      by-said (gives l b) q is = collects l b q (pairs M) refl is
+      by-said : Taken s (length B) (length M) (length w) → (a : Said) → d .said ≡ a → c ≡ afterRead s B M E a d → Kind s B M E r w e
+      by-said taken (asks p m o) q is = asks-too taken p m o q is
+      by-said taken ends q is = ends-too taken q is
+      by-said taken (refuses n vs) q is = refuses-too taken n vs q is
+      by-said taken (gives l b) q is = collects taken l b q (pairs M) refl is
 
       go : (u : Bool) → sound s (length B) (length M) ≡ u → (v : Bool) → ltb (length B) (length w) ≡ v → Kind s B M E r w e
       go false u v x = of-state u (unsound u)
-      go true u true x = of-bytes x (short u x)
-      go true u false x = by-said (d .said) refl (reads u x)
+      go true u true x = of-bytes u x (short u x)
+      go true u false x = by-said (u, ltb-false (length B) (length w) x) (d .said) refl (reads u x)
 
   -- a refusal that is neither of the state nor of the set is the read's own
   pub refused-read : (n : ℕ) (vs : List ℕ) → c .said ≡ set.refuses n vs → eqb n 11 ≡ false → eqb n 12 ≡ false → d .said ≡ refuses n vs
@@ -316,14 +317,14 @@ module _ (X : List ℕ) (C : ℕ) (r : Reader) (w e : List ℕ) (t : Tells X C r
 
       go : Kind s B M E r w e → d .said ≡ refuses n vs
       go (of-state u q) = not-number 11 _ q refl other
-      go (of-bytes u q) = not-number 12 _ q refl more
-      go (asks-too p m o u q) = not-this _ q refl
-      go (ends-too u q) = not-this _ q refl
-      go (refuses-too m us u q) =
+      go (of-bytes ok u q) = not-number 12 _ q refl more
+      go (asks-too ok p m o u q) = not-this _ q refl
+      go (ends-too ok u q) = not-this _ q refl
+      go (refuses-too ok m us u q) =
           let same : set.refuses m us ≡ set.refuses n vs = ap (λ (x : Called). x .said) (sym q) ∙ is in
           u ∙ (λ i. refuses (numberSaid (same i)) (valuesSaid (same i)))
-      go (misfits l b u v q) = not-number 12 _ q refl more
-      go (holding l b u g q) = not-this _ q refl
+      go (misfits ok l b u v q) = not-number 12 _ q refl more
+      go (holding ok l b u g q) = not-this _ q refl
 
   -- an ask is the read's own
   pub asked-read : (p m o : ℕ) → c .said ≡ set.asks p m o → (d .said ≡ asks p m o) × (c ≡ leaves s B M E (set.asks p m o) (d .reader) (d .window) (d .table) (emptied s))
@@ -334,14 +335,14 @@ module _ (X : List ℕ) (C : ℕ) (r : Reader) (w e : List ℕ) (t : Tells X C r
 
       go : Kind s B M E r w e → (d .said ≡ asks p m o) × (c ≡ leaves s B M E (set.asks p m o) (d .reader) (d .window) (d .table) (emptied s))
       go (of-state u q) = not-this _ q refl
-      go (of-bytes u q) = not-this _ q refl
-      go (asks-too p′ m′ o′ u q) =
+      go (of-bytes ok u q) = not-this _ q refl
+      go (asks-too ok p′ m′ o′ u q) =
           let same : set.asks p′ m′ o′ ≡ set.asks p m o = ap (λ (x : Called). x .said) (sym q) ∙ is in
           (u ∙ (λ i. asOf (same i)), q ∙ (λ i. leaves s B M E (same i) (d .reader) (d .window) (d .table) (emptied s)))
-      go (ends-too u q) = not-this _ q refl
-      go (refuses-too m us u q) = not-this _ q refl
-      go (misfits l b u v q) = not-this _ q refl
-      go (holding l b u g q) = not-this _ q refl
+      go (ends-too ok u q) = not-this _ q refl
+      go (refuses-too ok m us u q) = not-this _ q refl
+      go (misfits ok l b u v q) = not-this _ q refl
+      go (holding ok l b u g q) = not-this _ q refl
 
   -- what a set call does to what is due
   module _ (fresh : Fresh X C r e) where

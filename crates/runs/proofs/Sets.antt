@@ -301,9 +301,9 @@ module _ (X : List ℕ) (C T : ℕ) (h : List Event) (s : State) (k : Reached X 
       by-table is (inr u) = inr (omega (arith, is, u))
 
   abbrev Heard : set.Said → Type 0
-  Heard a = HearsSet a next t (length B) (length M) (length E) (length (s .window)) c
+  Heard a = HearsSet a (reading s .said) next t (length B) (length M) (length E) (length (s .window)) c
 
-  hears-set : HearsSet (c .said) next t (length B) (length M) (length E) (length (s .window)) c
+  hears-set : HearsSet (c .said) (reading s .said) next t (length B) (length M) (length E) (length (s .window)) c
   hears-set = go (kind X C r (s .window) (s .table) (k .tells) t B M E)
     where
       by : (x : Called) → c ≡ x → Heard (x .said) → Heard (c .said)
@@ -311,17 +311,17 @@ module _ (X : List ℕ) (C T : ℕ) (h : List Event) (s : State) (k : Reached X 
 
       go : Kind t B M E r (s .window) (s .table) → Heard (c .said)
       go (of-state u q) = by _ q (inl (refl, u))
-      go (of-bytes u q) = by _ q (inr (inl (refl, ltb-true (length B) (length (s .window)) u)))
-      go (asks-too p m o u q) = by _ q tt
-      go (ends-too u q) = by _ q (ended (next 0) (read-heard ends u))
-      go (refuses-too n vs u q) = by _ q (inr (inr (inr (denied n vs (next 0) (read-heard (refuses n vs) u)))))
-      go (misfits l b u v q) = by _ q (inr (inr (inl (refl, not-fitting l b u v))))
-      go (holding l b u g q) = by _ q (held-heard g q)
+      go (of-bytes ok u q) = by _ q (inr (inl (refl, (ok, ltb-true (length B) (length (s .window)) u))))
+      go (asks-too ok p m o u q) = by _ q (ok, u)
+      go (ends-too ok u q) = by _ q (ok, ended (next 0) (read-heard ends u))
+      go (refuses-too ok n vs u q) = by _ q (inr (inr (ok, inr (denied n vs (next 0) (read-heard (refuses n vs) u)))))
+      go (misfits ok l b u v q) = by _ q (inr (inr (ok, inl (refl, not-fitting l b u v))))
+      go (holding ok l b u g q) = by _ q (held-heard g q)
         where
           held-heard : (g : Gathered) → c ≡ filledWith t B M E (reading s) g → Heard (filledWith t B M E (reading s) g .said)
           held-heard g q =
               let o = subst (λ (a : set.Said). call.SetGoes a D X C c) (ap (λ (x : Called). x .said) q) (does .goes) in
-              (o .some-record, (holds-record (g .count) _ o, left-out (g .count) _ o))
+              (ok, (o .some-record, (holds-record (g .count) _ o, left-out (g .count) _ o)))
 
 pub any-sets : Sets
 any-sets X capacity policy start made h s r t B M E =

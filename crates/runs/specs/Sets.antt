@@ -3,7 +3,7 @@
 -- window; an ask, the end and refusals 2 to 5 are those of a read; 11 and 12 come exactly when the table says. That the rest is read next is demand 3,
 -- whose runs have set calls too. Assumes nothing.
 use Prim.Native.Nat.{ℕ, zero, suc, _+_, _≤_, _<_}
-use mathlib.Core.Bool.{Bool, false}
+use mathlib.Core.Bool.{Bool, true, false}
 use mathlib.Core.List.{List}
 use mathlib.Core.Logic.{_⊎_}
 use mathlib.Core.Path.{_≡_}
@@ -14,6 +14,7 @@ use Rattle.meaning.specs.Line.{lines}
 use Rattle.meaning.specs.Input.{Rec}
 use Rattle.meaning.specs.Parts.{size}
 use Rattle.meaning.specs.Due as meant
+use Rattle.reader.specs.Read.{Said, asks}
 use Rattle.reader.specs.Calls.{at}
 use Rattle.set.specs.declared.state.Set.{Set}
 use Rattle.set.specs.Set.{sound, recordOf}
@@ -21,7 +22,7 @@ use Rattle.set.specs.Record.{placeHeld}
 use Rattle.set.specs.Shown.{ShowsAt, WritesAt}
 use Rattle.set.specs.Read as set
 use Rattle.set.specs.Read.{Called}
-use Rattle.runs.specs.Run.{State, Made, setting, Event, Run}
+use Rattle.runs.specs.Run.{State, Made, reading, setting, Event, Run}
 use Rattle.runs.specs.Demand.{origin, answers, dueFrom, nth}
 
 -- record i of a set is this one
@@ -65,22 +66,29 @@ LeftOut count taken marks ends top told r =
 abbrev pub Misfits : (marks ends : ℕ) → Rec → Type 0
 Misfits marks ends r = (marks < 2) ⊎ (ends < length (lines (r .bytes)))
 
--- 11 for the set; 12 for its bytes, for its tables; or the refusal that a read is due
+-- neither 11 is due for the set nor 12 for its bytes: the call comes to a read
+abbrev pub Taken : Set → (bytes marks window : ℕ) → Type 0
+Taken t bytes marks window = (sound t bytes marks ≡ true) × (window ≤ bytes)
+
+-- 11 for the set; then 12 for its bytes; then, if a record is due, 12 for its tables, or else the refusal that a read is due
 abbrev pub Refused : (number : ℕ) (values : List ℕ) (next : meant.Said Rec) → Set → (bytes marks ends window : ℕ) → Type 0
 Refused number values next t bytes marks ends window =
     ((number ≡ 11) × (sound t bytes marks ≡ false))
-    ⊎ (((number ≡ 12) × (bytes < window))
-    ⊎ (((number ≡ 12) × IfRecord next (Misfits marks ends))
-    ⊎ (next ≡ meant.refuses number values)))
+    ⊎ (((number ≡ 12) × ((sound t bytes marks ≡ true) × (bytes < window)))
+    ⊎ (Taken t bytes marks window
+    × (((number ≡ 12) × IfRecord next (Misfits marks ends))
+    ⊎ (next ≡ meant.refuses number values))))
 
-abbrev pub HearsSet : set.Said → (next : ℕ → meant.Said Rec) → Set → (bytes marks ends window : ℕ) → Called → Type 0
-HearsSet (set.asks p m o) next t bytes marks ends window c = Unit {0}
-HearsSet (set.holds k filled) next t bytes marks ends window c =
-    (1 ≤ k)
+-- what a set call says, where a single read would say `one`, and the answers due from here on are `next`
+abbrev pub HearsSet : set.Said → (one : Said) (next : ℕ → meant.Said Rec) → Set → (bytes marks ends window : ℕ) → Called → Type 0
+HearsSet (set.asks p m o) one next t bytes marks ends window c = Taken t bytes marks window × (one ≡ asks p m o)
+HearsSet (set.holds k filled) one next t bytes marks ends window c =
+    Taken t bytes marks window
+    × ((1 ≤ k)
     × (((i : ℕ) → i < k → IfRecord (next i) (λ (r : Rec). GivesAt r i c))
-    × OrNone (next k) (LeftOut k (linesOf next k) marks ends (c .set .base .0 + filled) (c .reader .fill .told)))
-HearsSet set.ends next t bytes marks ends window c = next 0 ≡ meant.ends
-HearsSet (set.refuses n vs) next t bytes marks ends window c = Refused n vs (next 0) t bytes marks ends window
+    × OrNone (next k) (LeftOut k (linesOf next k) marks ends (c .set .base .0 + filled) (c .reader .fill .told))))
+HearsSet set.ends one next t bytes marks ends window c = Taken t bytes marks window × (next 0 ≡ meant.ends)
+HearsSet (set.refuses n vs) one next t bytes marks ends window c = Refused n vs (next 0) t bytes marks ends window
 
 abbrev pub Sets : Type 0
 Sets =
@@ -89,5 +97,5 @@ Sets =
     (t : Set) (bytes marks ends : List ℕ) →
     let C = largest policy (length (start .window)) capacity in
     let T = length (start .table) in
-    HearsSet (setting t bytes marks ends s .said) (λ (i : ℕ). nth (i + answers h) (dueFrom X C T (origin h))) t (length bytes) (length marks) (length ends)
+    HearsSet (setting t bytes marks ends s .said) (reading s .said) (λ (i : ℕ). nth (i + answers h) (dueFrom X C T (origin h))) t (length bytes) (length marks) (length ends)
     (length (s .window)) (setting t bytes marks ends s)

@@ -45,7 +45,7 @@ module _ (s : List ℕ) where
       let e2 = or-left (b0 || b1 || b2) b3 e3 in
       let e1 = or-left (b0 || b1) b2 e2 in
       step i (i + 1) (omega arith) (omega arith) (or-left b0 b1 e1)
-      ∙ step (i + 1) (i + 2) (omega arith) (omega arith) (or-right (b0) b1 e1)
+      ∙ step (i + 1) (i + 2) (omega arith) (omega arith) (or-right b0 b1 e1)
       ∙ step (i + 2) (i + 3) (omega arith) (omega arith) (or-right (b0 || b1) b2 e2)
       ∙ step (i + 3) (i + 4) (omega arith) (omega arith) (or-right (b0 || b1 || b2) b3 e3)
       ∙ step (i + 4) (i + 5) (omega arith) (omega arith) (or-right (b0 || b1 || b2 || b3) b4 e4)

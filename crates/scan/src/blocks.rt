@@ -1,5 +1,5 @@
-// Blocks of bytes tested for a `\n` at once: tests joined by `|`, never `||`, become vector code. If a block has none, the line ends where it ends from
-// behind the block on.
+// Blocks of bytes tested for a `\n` at once: tests joined by `|`, never `||`, become vector code. Promised is what lets a block be passed: if it has none,
+// the line ends where it ends from behind the block on. A wrong yes would cost time, and no record.
 ghost use mathlib.Core.Bool.{false};
 ghost use mathlib.Core.Path.{_≡_};
 ghost use Prim.Native.Nat.{_+_, _≤_};

@@ -37,6 +37,7 @@ pub fn line_end(bytes: &[u8], from: usize) -> usize
     line_end_by_8(bytes, i)
 }
 
+// The same in blocks of eight, then byte by byte.
 fn line_end_by_8(bytes: &[u8], from: usize) -> usize
     ensures { λ r. ⌜ LineEnd (now (bytes .entry)) from r ⌝ }
 {

@@ -46,7 +46,7 @@ pub fn next_set(
     after_read(next, window, table, set, bytes, marks, ends)
 }
 
-// Refusal 11 is not due for the reader and its lent lengths, but for its ends.
+// Refusal 11 is not due for the reader's numbers and the lent lengths. The ends are tested by the read.
 fn is_lent(reader: Reader, window: usize, table: usize) -> bool
     ensures { λ r. ⌜ r ≡ (sane reader && lentAs reader window table) ⌝ }
 {
