@@ -10,7 +10,7 @@ use view::{Full, View};
 use window::{Ask, InputOffset};
 
 // The reader of a script, the last ask, the last set, and how much of the output's buffer is taken.
-#[derive(Drop)]
+#[derive(Clone, Copy)]
 pub(crate) struct Run {
     pub(crate) reader: Reader,
     pub(crate) ask: Ask,

@@ -17,7 +17,7 @@ use sets::{call_set, is_about_sets, no_set};
 use window::{Ask, InputOffset, WindowOffset};
 
 // How far the scripts are read, how much of the output's buffer is taken, and whether all was good so far.
-#[derive(Drop)]
+#[derive(Clone, Copy)]
 struct Progress {
     place: usize,
     at: usize,

@@ -9,7 +9,7 @@ use set::{Filled, Place, Set, next_set};
 use window::{Ask, InputOffset};
 
 // The last set, and the lengths of the slices that it was given.
-#[derive(Drop)]
+#[derive(Clone, Copy)]
 pub(crate) struct Last {
     pub(crate) set: Set,
     pub(crate) bytes: usize,

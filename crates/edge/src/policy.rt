@@ -5,7 +5,7 @@ use growth::{Growth, Policy};
 use reader::Reader;
 
 // The policy of a kind, if there is one.
-#[derive(Drop)]
+#[derive(Clone, Copy)]
 pub(crate) enum Chosen {
     Policy(Policy),
     Unknown,

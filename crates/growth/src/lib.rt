@@ -5,7 +5,7 @@ ghost use Rattle.growth.specs.declared.Policy.TheVariants.{DoubleUntilLimited};
 
 // How the capacity grows: `StdPolicy` doubles below 8 MiB and adds 8 MiB from there, `DoubleUntil(n)` does so at n, and
 // `DoubleUntilLimited` refuses besides what is above its limit.
-#[derive(Drop)]
+#[derive(Clone, Copy)]
 pub enum Policy {
     StdPolicy,
     DoubleUntil(usize),
@@ -13,7 +13,7 @@ pub enum Policy {
 }
 
 // The answer of `grow_to`: the larger capacity, or no growth.
-#[derive(Drop)]
+#[derive(Clone, Copy)]
 pub enum Growth {
     To(usize),
     No,

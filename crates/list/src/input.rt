@@ -4,14 +4,14 @@ use reader::{Reader, Reported};
 use window::Ask;
 
 // What came of an ask: the reader goes on, or it cannot, and the reason was told.
-#[derive(Drop)]
+#[derive(Clone, Copy)]
 pub(crate) enum Brought {
     On(Reader),
     Failed,
 }
 
 // What came of a read.
-#[derive(Drop)]
+#[derive(Clone, Copy)]
 enum Got {
     Bytes(usize),
     Failed,

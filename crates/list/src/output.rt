@@ -4,7 +4,7 @@ use reader::{Answer, Position, Reader};
 use rows::{Told, put_last, put_record};
 
 // How much of the buffer is taken; or the output failed, and the reason was told.
-#[derive(Drop)]
+#[derive(Clone, Copy)]
 pub(crate) enum Kept {
     At(usize),
     Failed,

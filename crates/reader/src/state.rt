@@ -3,7 +3,7 @@ use growth::Policy;
 use window::{Ask, Fill, InputOffset, WindowOffset};
 
 // The line (from 1) and the byte (from 0) of a record's `>`.
-#[derive(Drop)]
+#[derive(Clone, Copy)]
 pub struct Position {
     pub line: u64,
     pub byte: InputOffset,
@@ -11,7 +11,7 @@ pub struct Position {
 
 // The record that is searched or was given: where it starts in the window, on which line, how far it was searched, and how many of its ends
 // were recorded.
-#[derive(Drop)]
+#[derive(Clone, Copy)]
 pub struct Mark {
     pub start: WindowOffset,
     pub search: WindowOffset,
@@ -22,7 +22,7 @@ pub struct Mark {
 // Where a reader stands. `Lead`: before the first record. `Sought`: after a seek. `Searching`: a record is searched. `Current`: a record was
 // given. `Ended`: the end, behind a record given. `Over`: the end, with no record to name. `Window`, `Table`, `Astray`: refusals 3, 4 and
 // a read's 5, which last. `Ahead`: the next record is known and shown, a set having ended before it.
-#[derive(Drop)]
+#[derive(Clone, Copy)]
 pub enum Phase {
     Lead,
     Sought,
@@ -36,7 +36,7 @@ pub enum Phase {
     Ahead,
 }
 
-#[derive(Drop)]
+#[derive(Clone, Copy)]
 pub struct Reader {
     pub fill: Fill,
     pub mark: Mark,
@@ -45,7 +45,7 @@ pub struct Reader {
 }
 
 // What a read answers: an ask, a record, the end, or a refusal: `Start` 2, `Window` 3, `Table` 4, `Place` 5, `State` 11.
-#[derive(Drop)]
+#[derive(Clone, Copy)]
 pub enum Answer {
     Ask(Ask),
     Record(Position),
@@ -57,7 +57,7 @@ pub enum Answer {
     State,
 }
 
-#[derive(Drop)]
+#[derive(Clone, Copy)]
 pub struct Next {
     pub reader: Reader,
     pub answer: Answer,
@@ -65,7 +65,7 @@ pub struct Next {
 
 // What stands behind the current record: a whole record, one that is not whole in the filled bytes or that a read would refuse, the end; or
 // refusal 7 or 11.
-#[derive(Drop)]
+#[derive(Clone, Copy)]
 pub enum Sight {
     Whole(Position),
     Unfinished,
@@ -74,21 +74,21 @@ pub enum Sight {
     State,
 }
 
-#[derive(Drop)]
+#[derive(Clone, Copy)]
 pub struct Look {
     pub reader: Reader,
     pub sight: Sight,
 }
 
 // What a setup comes to; it is refused with 1.
-#[derive(Drop)]
+#[derive(Clone, Copy)]
 pub enum Setup {
     Made(Reader),
     Refused,
 }
 
 // What a report comes to: it is taken, or refused with 6 or 11, and the reader is handed back.
-#[derive(Drop)]
+#[derive(Clone, Copy)]
 pub enum Reported {
     Taken(Reader),
     Refused(Reader),
@@ -96,7 +96,7 @@ pub enum Reported {
 }
 
 // What a seek comes to: done, or refused with 5 or 11.
-#[derive(Drop)]
+#[derive(Clone, Copy)]
 pub enum Sought {
     Done(Reader),
     Refused(Reader),
@@ -104,7 +104,7 @@ pub enum Sought {
 }
 
 // What a position is: that of a record, none, or refused with 11.
-#[derive(Drop)]
+#[derive(Clone, Copy)]
 pub enum Where {
     At(Position),
     None,
@@ -112,7 +112,7 @@ pub enum Where {
 }
 
 // What views and writers of the current record go by: where it starts, the filled bytes, how many ends it has; or refusal 7 or 11.
-#[derive(Drop)]
+#[derive(Clone, Copy)]
 pub enum Current {
     At {
         start: usize,

@@ -8,7 +8,7 @@ use reader::Reader;
 use view::View;
 
 // The fields stand in the order in which the views take them. Window and table may be lent for different times.
-#[derive(Drop)]
+#[derive(Clone, Copy)]
 pub struct RefRecord<'w, 'e> {
     pub reader: Reader,
     pub window: &'w [u8],

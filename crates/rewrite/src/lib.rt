@@ -10,7 +10,7 @@ pub use lines::{write_in, write_wrap_in, write_wrap_seq_iter};
 pub use unchanged::write_unchanged_in;
 
 // What a writer of a record answers: the length written, or refusal 7, 10, 9 with the need, or 11.
-#[derive(Drop)]
+#[derive(Clone, Copy)]
 pub enum Rewrote {
     Done(usize),
     NoRecord,

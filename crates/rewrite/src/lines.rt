@@ -115,7 +115,7 @@ fn put_head(with_head: bool, head: &[u8], out: &mut [u8]) -> usize
 }
 
 // Whether some ends are rising, and if so the length of their lines together, each trimmed.
-#[derive(Drop)]
+#[derive(Clone, Copy)]
 struct Joined {
     rising: bool,
     len: usize,

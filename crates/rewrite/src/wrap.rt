@@ -5,7 +5,7 @@ ghost use Rattle.view.specs.Full.{joined_at};
 ghost use Rattle.rewrite.specs.Wrap.{Goes, Piece, Reached, GoesOn, Wraps, Wrapped};
 
 // A place in the output, and the bytes there since the last cut.
-#[derive(Drop)]
+#[derive(Clone, Copy)]
 pub(crate) struct Column {
     at: usize,
     col: usize,

@@ -7,7 +7,7 @@ pub use current::{full_len, put_record};
 pub use line::{put_last, put_row};
 
 // What is answered: the place behind the text, or refusal 9 with the need.
-#[derive(Drop)]
+#[derive(Clone, Copy)]
 pub enum Told {
     Done(usize),
     Room(usize),

@@ -5,7 +5,7 @@ ghost use Rattle.scan.specs.Search.{Search, stopped_at};
 use crate::line::line_end;
 
 // Why a search stopped: at the next record, at an end that found no slot, or where the filled bytes end.
-#[derive(Drop)]
+#[derive(Clone, Copy)]
 pub enum Stop {
     Record,
     Full,
@@ -13,7 +13,7 @@ pub enum Stop {
 }
 
 // Where a search stopped, with how many ends recorded.
-#[derive(Drop)]
+#[derive(Clone, Copy)]
 pub struct Searched {
     pub at: usize,
     pub count: usize,

@@ -67,7 +67,7 @@ fn line_end_by_1(bytes: &[u8], from: usize) -> usize
 
 // The blank lines from a place on: how many, and where the next line begins. `undecided`: of that line nothing or a lone `\r` is there, so that
 // it may yet be blank.
-#[derive(Drop)]
+#[derive(Clone, Copy)]
 pub struct Blank {
     pub at: usize,
     pub lines: usize,

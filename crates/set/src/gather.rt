@@ -8,7 +8,7 @@ use crate::copies::copy_ends;
 use reader::{Reader, Sight};
 
 // Where a set call stands: the reader, and how many records with how many ends the set has.
-#[derive(Drop)]
+#[derive(Clone, Copy)]
 pub(crate) struct Way {
     pub(crate) reader: Reader,
     pub(crate) count: usize,

@@ -9,7 +9,7 @@ use window::{WindowOffset, to_input};
 
 // What views and writers of a set's record go by: where it starts, the filled bytes, and its ends, from one number up to another; or refusal
 // 7 or 11.
-#[derive(Drop)]
+#[derive(Clone, Copy)]
 pub enum Held {
     At {
         start: usize,
@@ -22,7 +22,7 @@ pub enum Held {
 }
 
 // The position of a set's record, or refusal 7 or 11.
-#[derive(Drop)]
+#[derive(Clone, Copy)]
 pub enum Place {
     At(Position),
     None,

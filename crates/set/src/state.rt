@@ -4,7 +4,7 @@ use window::{Ask, InputOffset};
 
 // A record set: how many of its bytes are filled, how many records it holds, the line of the first, and the place of its bytes in the input. The
 // bytes and the two tables, of marks and of ends, stay with the caller.
-#[derive(Drop)]
+#[derive(Clone, Copy)]
 pub struct Set {
     pub filled: usize,
     pub count: usize,
@@ -14,7 +14,7 @@ pub struct Set {
 
 // What a set call answers: an ask, so many records with so many bytes, the end, or a refusal: `Start` 2, `Window` 3, `Table` 4, `Place` 5, `State` 11,
 // `Room` 12.
-#[derive(Drop)]
+#[derive(Clone, Copy)]
 pub enum Filled {
     Ask(Ask),
     Records { count: usize, filled: usize },
@@ -27,7 +27,7 @@ pub enum Filled {
     Room,
 }
 
-#[derive(Drop)]
+#[derive(Clone, Copy)]
 pub struct NextSet {
     pub reader: Reader,
     pub set: Set,

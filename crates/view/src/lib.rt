@@ -9,7 +9,7 @@ pub use joined::{full_in, pick};
 pub use parts::{desc_in, head_in, id_in, line_in, number_of_lines, seq_in, shown};
 
 // What a view answers: the extent of a part, that there is none (a head without a description), or refusal 7, 8 or 11.
-#[derive(Drop)]
+#[derive(Clone, Copy)]
 pub enum View {
     Part { from: usize, to: usize },
     None,
@@ -19,7 +19,7 @@ pub enum View {
 }
 
 // What the full sequence answers: a part of the window, a length at the front of the scratch, or refusal 7, 9 with the need, or 11.
-#[derive(Drop)]
+#[derive(Clone, Copy)]
 pub enum Full {
     Window { from: usize, to: usize },
     Scratch(usize),
@@ -29,7 +29,7 @@ pub enum Full {
 }
 
 // What a count of sequence lines answers: their number, or refusal 7 or 11.
-#[derive(Drop)]
+#[derive(Clone, Copy)]
 pub enum Count {
     Lines(usize),
     NoRecord,

@@ -7,7 +7,7 @@ use growth::{Growth, Policy};
 
 // The first `filled` bytes of the window hold the input from `base` on. `told`: the end was told. `asking`: an ask is open.
 // `lent`: the window's length at setup.
-#[derive(Drop)]
+#[derive(Clone, Copy)]
 pub struct Fill {
     pub capacity: usize,
     pub filled: usize,
@@ -19,7 +19,7 @@ pub struct Fill {
 }
 
 // What is asked for: `room` bytes of the input from `offset` on, to be put into the window at `place`.
-#[derive(Drop)]
+#[derive(Clone, Copy)]
 pub struct Ask {
     pub place: WindowOffset,
     pub room: usize,
@@ -27,14 +27,14 @@ pub struct Ask {
 }
 
 // What a report comes to.
-#[derive(Drop)]
+#[derive(Clone, Copy)]
 pub enum Report {
     Taken(Fill),
     Refused,
 }
 
 // What growing comes to.
-#[derive(Drop)]
+#[derive(Clone, Copy)]
 pub enum Widened {
     To(Fill),
     No,

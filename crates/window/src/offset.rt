@@ -2,10 +2,10 @@
 // alone.
 ghost use Rattle.window.specs.Offset.{ToInput, ToWindow};
 
-#[derive(Drop)]
+#[derive(Clone, Copy)]
 pub struct WindowOffset(pub usize);
 
-#[derive(Drop)]
+#[derive(Clone, Copy)]
 pub struct InputOffset(pub u64);
 
 // The place of the input at an offset of a window whose first byte stands at `base`.

@@ -9,7 +9,7 @@ use need::{id_desc_need, plus, wrap_seq_need};
 use put::{put_head, put_id_desc, put_seq, put_wrap_seq};
 
 // What a writer answers: the length written, refusal 10 (a width 0), or refusal 9 with the need.
-#[derive(Drop)]
+#[derive(Clone, Copy)]
 pub enum Wrote {
     Done(usize),
     Wrap,
