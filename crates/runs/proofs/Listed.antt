@@ -32,7 +32,7 @@ use Rattle.view.proofs.Heads.{trim-within}
 use Rattle.view.proofs.Cases.{between_in}
 use Rattle.view.proofs.Joins.{filled-room, filled-done, others-are, full-some}
 use Rattle.rows.specs.Rows.{length_of, last_text}
-use Rattle.runs.specs.Run.{State, Made, reading, after_read, Event, read, brought, Run, begun, by_read, by_report, by_seek, by_refused_report, by_refused_seek}
+use Rattle.runs.specs.Run.{State, Made, reading, after_read, Event, read, brought, Run, begun, by_read, by-set, by_report, by_seek, by_refused_report, by_refused_seek}
 use Rattle.runs.specs.Demand.{front as fromFront, origin, answers, due_from, nth, Gives, Hears}
 use Rattle.runs.specs.Served.{Follows, Closed}
 use Rattle.runs.specs.Listed.{Stops, row_at, Lists, asked, reported, listed, stopped, Listed, Writes, Written}
