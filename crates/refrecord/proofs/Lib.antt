@@ -1,4 +1,2 @@
--- What a borrowing record owns, the walk that its views share, and that each promise allows one answer.
-pub mod Held
-pub mod Thin
+-- Each promise of the borrowing record allows one answer.
 pub mod Unique

@@ -264,7 +264,7 @@ module _ (X : List ℕ) (wish : List Event → ℕ) (start : State) where
   from-start _ _ (by_read h s r) f t = from-start h s r f (one_more s (reading s).said refl t)
   from-start _ _ (by_report n w h s r taken brings) f t =
       from-start h s r f.1 (record { text = t.text; is_listed = reported s n w t.text taken brings t.is_listed })
-  from-start _ _ (by-set t' bytes marks ends h s r) f t = elim f [ ]
+  from-start _ _ (by-set t' bytes marks es h s r) f t = elim f [ ]
   from-start _ _ (by_seek l b h s r e) f t = absurd f
   from-start _ _ (by_refused_report n number h s r e) f t = absurd f
   from-start _ _ (by_refused_seek l b number h s r e) f t = absurd f
@@ -281,7 +281,7 @@ module _ (X : List ℕ) (wish : List Event → ℕ) (start : State) where
   all-written _ _ (by_read h s r) f c =
       from-start h s r f (record { text = last_text (reading s).said; is_listed = stopped s (closed-stops (reading s).said h c) })
   all-written _ _ (by_report n w h s r taken brings) f c = absurd c
-  all-written _ _ (by-set t bytes marks ends h s r) f c = elim c [ ]
+  all-written _ _ (by-set t bytes marks es h s r) f c = elim c [ ]
   all-written _ _ (by_seek l b h s r e) f c = absurd c
   all-written _ _ (by_refused_report n number h s r e) f c = absurd c
   all-written _ _ (by_refused_seek l b number h s r e) f c = absurd c
