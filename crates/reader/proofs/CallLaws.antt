@@ -33,28 +33,6 @@ pub same-reader :
     ◌≡◌ {A = Reader} (record { fill = f; mark = m; slots = slots; phase = p }) (record { fill = g; mark = n; slots = slots; phase = p })
 same-reader slots p a b = λ i. record { fill = a i; mark = b i; slots = slots; phase = p }
 
--- the phases that are not `Current`, by their places in the declaration
-pub not-current : (p : Phase) → OneOf (0 ∷ 1 ∷ 2 ∷ 4 ∷ 5 ∷ 6 ∷ 7 ∷ 8 ∷ 9 ∷ []) (tag_of Phase·type p) → false ≡ is_current p
-not-current phase.Lead k = refl
-not-current phase.Sought k = refl
-not-current phase.Searching k = refl
-not-current phase.Ended k = refl
-not-current phase.Over k = refl
-not-current phase.Window k = refl
-not-current phase.Table k = refl
-not-current phase.Astray k = refl
-not-current phase.Ahead k = refl
-not-current phase.Current k =
-    absurd
-    (⊎_elim (λ e. omega arith)
-    (⊎_elim (λ e. omega arith)
-    (⊎_elim (λ e. omega arith)
-    (⊎_elim (λ e. omega arith)
-    (⊎_elim (λ e. omega arith)
-    (⊎_elim (λ e. omega arith)
-    (⊎_elim (λ e. omega arith) (⊎_elim (λ e. omega arith) (λ e. omega arith))))))))
-    k)
-
 -- a setup that is not refused
 pub record Fitting (capacity window slots : ℕ) : Type 0 where
   pub capacity_least : 3 ≤ capacity

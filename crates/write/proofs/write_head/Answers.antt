@@ -16,11 +16,11 @@ pub put_head-requires : goal.put_head-requires
 put_head-requires c =
     let a = c.args in
     let text = head_text a.head.now in
-    omega (arith, head-length a.head.now, c.if-out-need.false, c.well-formed.1.0.1)
+    omega (arith, head-length a.head.now, c.if-out-need.false, c.well_formed.1.0.1)
 
 pub returns : goal.returns
 returns c =
     let a = c.args in
     let text = head_text a.head.now in
-    let fits : Fits 0 text a.out.now = omega (arith, head-length a.head.now, c.if-out-need.false, c.well-formed.1.0.1) in
+    let fits : Fits 0 text a.out.now = omega (arith, head-length a.head.now, c.if-out-need.false, c.well_formed.1.0.1) in
     fill_done fits c.put_head.ensures

@@ -10,18 +10,18 @@ use Rattle.write.proofs.write_id_desc.Goals as goal
 pub returns-then-out-need : goal.returns-then-out-need
 returns-then-out-need c =
     let a = c.args in
-    let text = id_desc_text a.id.now (described a.with-desc a.desc.now) in
-    fill-refused text a.out.now (id-desc-length a.id.now a.with-desc a.desc.now) c.id_desc_need-need.ensures (omega arith)
+    let text = id_desc_text a.id.now (described a.with_desc a.desc.now) in
+    fill-refused text a.out.now (id-desc-length a.id.now a.with_desc a.desc.now) c.id_desc_need-need.ensures (omega arith)
 
 pub put_id_desc-requires : goal.put_id_desc-requires
 put_id_desc-requires c =
     let a = c.args in
-    let text = id_desc_text a.id.now (described a.with-desc a.desc.now) in
-    omega (arith, id-desc-length a.id.now a.with-desc a.desc.now, c.id_desc_need-need.ensures, c.if-out-need.false, c.well-formed.1.1.1.0.1)
+    let text = id_desc_text a.id.now (described a.with_desc a.desc.now) in
+    omega (arith, id-desc-length a.id.now a.with_desc a.desc.now, c.id_desc_need-need.ensures, c.if-out-need.false, c.well_formed.1.1.1.0.1)
 
 pub returns : goal.returns
 returns c =
     let a = c.args in
-    let text = id_desc_text a.id.now (described a.with-desc a.desc.now) in
-    let fits : Fits 0 text a.out.now = omega (arith, id-desc-length a.id.now a.with-desc a.desc.now, c.id_desc_need-need.ensures, c.if-out-need.false, c.well-formed.1.1.1.0.1) in
+    let text = id_desc_text a.id.now (described a.with_desc a.desc.now) in
+    let fits : Fits 0 text a.out.now = omega (arith, id-desc-length a.id.now a.with_desc a.desc.now, c.id_desc_need-need.ensures, c.if-out-need.false, c.well_formed.1.1.1.0.1) in
     fill_done fits c.put_id_desc.ensures

@@ -16,11 +16,11 @@ pub put_seq-requires : goal.put_seq-requires
 put_seq-requires c =
     let a = c.args in
     let text = seq_text a.seq.now in
-    omega (arith, seq-length a.seq.now, c.if-out-need.false, c.well-formed.1.0.1)
+    omega (arith, seq-length a.seq.now, c.if-out-need.false, c.well_formed.1.0.1)
 
 pub returns : goal.returns
 returns c =
     let a = c.args in
     let text = seq_text a.seq.now in
-    let fits : Fits 0 text a.out.now = omega (arith, seq-length a.seq.now, c.if-out-need.false, c.well-formed.1.0.1) in
+    let fits : Fits 0 text a.out.now = omega (arith, seq-length a.seq.now, c.if-out-need.false, c.well_formed.1.0.1) in
     fill_done fits c.put_seq.ensures

@@ -26,12 +26,12 @@ put_wrap_seq-requires c =
     let a = c.args in
     let text = wrap_seq_text a.wrap a.seq.now in
     let wide : 0 < a.wrap = omega (arith, c.if-wrap-eq0.false) in
-    record { wide = wide; room = omega (arith, wrap-length a.wrap a.seq.now wide, c.wrap_seq_need-need.ensures, c.if-out-need.false, c.well-formed.1.1.0.1) }
+    record { wide = wide; room = omega (arith, wrap-length a.wrap a.seq.now wide, c.wrap_seq_need-need.ensures, c.if-out-need.false, c.well_formed.1.1.0.1) }
 
 pub returns : goal.returns
 returns c =
     let a = c.args in
     let text = wrap_seq_text a.wrap a.seq.now in
     let wide : 0 < a.wrap = omega (arith, c.if-wrap-eq0.false) in
-    let fits : Fits 0 text a.out.now = omega (arith, wrap-length a.wrap a.seq.now wide, c.wrap_seq_need-need.ensures, c.if-out-need.false, c.well-formed.1.1.0.1) in
+    let fits : Fits 0 text a.out.now = omega (arith, wrap-length a.wrap a.seq.now wide, c.wrap_seq_need-need.ensures, c.if-out-need.false, c.well_formed.1.1.0.1) in
     fill_done fits c.put_wrap_seq.ensures ∙ sym (wrap-fill a.wrap text a.out.now wide)

@@ -15,7 +15,7 @@ use Rattle.rewrite.proofs.Records.{first, behind, head-short, seq-few, text-long
 use Rattle.rewrite.proofs.lines.fill.Goals as goal
 
 pub overflow_add-start : goal.overflow_add-start
-overflow_add-start c = omega (arith, first c.requires refl, c.well-formed.0.1)
+overflow_add-start c = omega (arith, first c.requires refl, c.well_formed.0.1)
 
 pub slice_bounds-trim_cr-count : goal.slice_bounds-trim_cr-count
 slice_bounds-trim_cr-count c = omega (arith, first c.requires refl)
@@ -31,20 +31,20 @@ overflow_sub-len c = head-short c.requires c.trim_cr-head.ensures
 
 pub wrap_len-requires : goal.wrap_len-requires
 wrap_len-requires c =
-    record { wide = c.requires.wide; few = seq-few c.requires c.trim_cr-head.ensures (omega (arith, c.well-formed.0.1)) }
+    record { wide = c.requires.wide; few = seq-few c.requires c.trim_cr-head.ensures (omega (arith, c.well_formed.0.1)) }
 
 pub overflow_add-need : goal.overflow_add-need
 overflow_add-need c =
-    omega (arith, text-few c.requires c.trim_cr-head.ensures c.args.with_head (omega (arith, c.well-formed.0.1)), c.head_len.ensures, c.wrap_len.ensures)
+    omega (arith, text-few c.requires c.trim_cr-head.ensures c.args.with_head (omega (arith, c.well_formed.0.1)), c.head_len.ensures, c.wrap_len.ensures)
 
 pub returns-then-out-need : goal.returns-then-out-need
 returns-then-out-need c =
     let a = c.args in
     let is = c.trim_cr-head.ensures in
-    let text = lines_text a.with-head a.wrap c.trim_cr-head.result.now (lines_of a.bytes.now (get_or a.ends.now 0 0) (Others a.ends.now)) in
-    let few = text-few c.requires is a.with-head (omega (arith, c.well-formed.0.1)) in
-    fill-refused text a.out.now (text-long c.requires is a.with-head) (omega (arith, few, c.head_len.ensures, c.wrap_len.ensures)) (omega arith)
-    ∙ sym (text_of c.requires is a.out.now (λ (head : List ℕ) (ls : List (List ℕ)). filled (lines_text a.with-head a.wrap head ls) a.out.now))
+    let text = lines_text a.with_head a.wrap c.trim_cr-head.result.now (lines_of a.bytes.now (get_or a.ends.now 0 0) (Others a.ends.now)) in
+    let few = text-few c.requires is a.with_head (omega (arith, c.well_formed.0.1)) in
+    fill-refused text a.out.now (text-long c.requires is a.with_head) (omega (arith, few, c.head_len.ensures, c.wrap_len.ensures)) (omega arith)
+    ∙ sym (text_of c.requires is a.out.now (λ (head : List ℕ) (ls : List (List ℕ)). filled (lines_text a.with_head a.wrap head ls) a.out.now))
 
 pub put_head-at-requires : goal.put_head-at-requires
 put_head-at-requires c = omega (arith, c.head_len.ensures, c.if-out-need.false)
@@ -55,7 +55,7 @@ put_wrapped-requires c =
     let is = c.trim_cr-head.ensures in
     let head = c.trim_cr-head.result.now in
     let ls = lines_of a.bytes.now (get_or a.ends.now 0 0) (Others a.ends.now) in
-    let fits : Fits 0 (lines_text a.with-head a.wrap head ls) a.out.now = omega (arith, text-long c.requires is a.with-head, c.head_len.ensures, c.wrap_len.ensures, c.if-out-need.false) in
+    let fits : Fits 0 (lines_text a.with_head a.wrap head ls) a.out.now = omega (arith, text-long c.requires is a.with_head, c.head_len.ensures, c.wrap_len.ensures, c.if-out-need.false) in
     record { lines = behind c.requires is; wide = c.requires.wide; room = second_fits (wrap_seq_iter_text a.wrap ls) fits c.put_head-at.ensures }
 
 pub returns : goal.returns
@@ -64,6 +64,6 @@ returns c =
     let is = c.trim_cr-head.ensures in
     let head = c.trim_cr-head.result.now in
     let ls = lines_of a.bytes.now (get_or a.ends.now 0 0) (Others a.ends.now) in
-    let fits : Fits 0 (lines_text a.with-head a.wrap head ls) a.out.now = omega (arith, text-long c.requires is a.with-head, c.head_len.ensures, c.wrap_len.ensures, c.if-out-need.false) in
+    let fits : Fits 0 (lines_text a.with_head a.wrap head ls) a.out.now = omega (arith, text-long c.requires is a.with_head, c.head_len.ensures, c.wrap_len.ensures, c.if-out-need.false) in
     fill_done fits (put_both fits c.put_head-at.ensures c.put_wrapped.ensures)
-    ∙ sym (text_of c.requires is a.out.now (λ (head : List ℕ) (ls : List (List ℕ)). filled (lines_text a.with-head a.wrap head ls) a.out.now))
+    ∙ sym (text_of c.requires is a.out.now (λ (head : List ℕ) (ls : List (List ℕ)). filled (lines_text a.with_head a.wrap head ls) a.out.now))

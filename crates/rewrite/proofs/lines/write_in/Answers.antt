@@ -9,4 +9,4 @@ pub returns : goal.returns
 returns c =
     let a = c.args in
     c.write_lines.ensures
-    ∙ one_line a.bytes.now a.start a.ends.now (2 ^ 64 - 1) a.out.now (omega (arith, c.well-formed.0.1))
+    ∙ one_line a.bytes.now a.start a.ends.now (2 ^ 64 - 1) a.out.now (omega (arith, c.well_formed.0.1))

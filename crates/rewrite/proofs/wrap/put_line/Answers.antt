@@ -53,7 +53,7 @@ loop-i-preserved c =
     let to = i + c.smaller.result in
     let line = a.line.now in
     let piece = take (to - i) (drop i line) in
-    (omega (arith, n), due-next c.requires piece (drop to line) (due-as (piece-rest line i to (omega arith)) c.loop-i.invariant.1) c.put_piece-end.ensures c.put_piece-end.auto.1.1.1.0)
+    (omega (arith, n), due-next c.requires piece (drop to line) (due-as (piece-rest line i to (omega arith)) c.loop-i.invariant.1) c.put_piece-end.ensures c.put_piece-end.auto.out)
 
 pub shape_of-out : goal.shape_of-out
 shape_of-out c = c.loop-i.invariant.1.same

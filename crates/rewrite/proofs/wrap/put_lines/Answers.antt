@@ -46,7 +46,7 @@ loop-i-preserved c =
     let more = c.loop-i-test.true in
     let next = lines-at a.bytes.now c.loop-i.last a.ends.now c.loop-i.i more c.loop-i.invariant.0 in
     let turn = joined-turn a.bytes.now c.loop-i.last a.ends.now c.loop-i.i _ more c.trim_cr.ensures in
-    (next.lines, due-next c.requires.goes _ (joined_at a.bytes.now (suc (get_or a.ends.now c.loop-i.i 0)) (drop (c.loop-i.i + 1) a.ends.now)) (due-as turn c.loop-i.invariant.1) c.put_line-end.ensures c.put_line-end.auto.1.1.1.0)
+    (next.lines, due-next c.requires.goes _ (joined_at a.bytes.now (suc (get_or a.ends.now c.loop-i.i 0)) (drop (c.loop-i.i + 1) a.ends.now)) (due-as turn c.loop-i.invariant.1) c.put_line-end.ensures c.put_line-end.auto.out)
 
 pub shape_of-out : goal.shape_of-out
 shape_of-out c = c.loop-i.invariant.1.same

@@ -11,7 +11,7 @@ use Rattle.rows.proofs.line.put_last.Goals as goal
 pub returns-in-Ask : goal.returns-in-Ask
 returns-in-Ask c =
     let a = c.args in
-    c.put_all_lem.ensures
+    c.put_all.ensures
     ∙ sym (ap (λ (x : Answer). filled_at a.at (last_text (said_by x)) a.out.now) c.in-Ask.is)
 
 pub returns-in-Record : goal.returns-in-Record
@@ -30,7 +30,7 @@ returns-in-End c =
 pub returns-in-Start : goal.returns-in-Start
 returns-in-Start c =
     let a = c.args in
-    c.Put-refused.ensures
+    c.put_refused.ensures
     ∙ sym (ap (λ (x : Answer). filled_at a.at (last_text (said_by x)) a.out.now) c.in-Start.is)
 
 pub returns-in-Window : goal.returns-in-Window

@@ -8,7 +8,7 @@ use Rattle.rows.proofs.Stores.{last_stored, only-stored}
 use Rattle.rows.proofs.number.put_decimal.Goals as goal
 
 pub overflow_add-end : goal.overflow_add-end
-overflow_add-end c = omega (arith, c.digits.ensures, c.requires, c.well-formed.1.0.1)
+overflow_add-end c = omega (arith, c.digits.ensures, c.requires, c.well_formed.1.0.1)
 
 pub loop-rest-init : goal.loop-rest-init
 loop-rest-init c = (omega (arith, c.digits.ensures), omega (arith, c.digits.ensures, c.requires), refl, refl)

@@ -5,7 +5,7 @@ use mathlib.Core.Path.{refl, sym, ap, ◌∙◌}
 use lib.ListN.{drop}
 use Rattle.scan.specs.Search.{lead_at}
 use Rattle.scan.proofs.LeadLaws.{lead-past, lead-empty, lead-other, lead-cr-last, lead-cr-other, lead-cr}
-use Rattle.scan.proofs.line.lead.Goals.{else-x-eq10, then-x-eq10}
+use Rattle.scan.proofs.line.lead.Goals.{else-x-eq10+else-x-ne13+else-next-bytes+else-bytes-next-ne10, then-x-eq10}
 use Rattle.scan.proofs.line.lead.Goals as goal
 
 pub loop-i-init : goal.loop-i-init
@@ -30,22 +30,22 @@ returns-then-bytes-next-ne10 c =
     ∙ lead-cr-other c.args.bytes.now c.loop-i.i c.loop-i.n (omega arith) c.if-x-ne13.false c.if-bytes-next-ne10.true)
 
 pub overflow_add-n : goal.overflow_add-n
-overflow_add-n c = elim c.if-x-eq10.branch [ then-x-eq10 w ↦ omega arith | else-x-eq10 w ↦ omega arith ]
+overflow_add-n c = elim c.if-x-eq10.branch [ then-x-eq10 w ↦ omega arith | else-x-eq10+else-x-ne13+else-next-bytes+else-bytes-next-ne10 w ↦ omega arith ]
 
 pub loop-i-smaller : goal.loop-i-smaller
-loop-i-smaller c = elim c.if-x-eq10.branch [ then-x-eq10 w ↦ omega arith | else-x-eq10 w ↦ omega arith ]
+loop-i-smaller c = elim c.if-x-eq10.branch [ then-x-eq10 w ↦ omega arith | else-x-eq10+else-x-ne13+else-next-bytes+else-bytes-next-ne10 w ↦ omega arith ]
 
 pub loop-i-preserved : goal.loop-i-preserved
 loop-i-preserved c =
     let s = c.args.bytes.now in
     let n = c.loop-i.n in (
-      elim c.if-x-eq10.branch [ then-x-eq10 w ↦ omega arith | else-x-eq10 w ↦ omega arith ],
+      elim c.if-x-eq10.branch [ then-x-eq10 w ↦ omega arith | else-x-eq10+else-x-ne13+else-next-bytes+else-bytes-next-ne10 w ↦ omega arith ],
       c.loop-i.invariant.1
           ∙ elim c.if-x-eq10.branch [
-            | then-x-eq10 w ↦ lead-empty s c.loop-i.i n c.loop-i-test.true w.0.taken
-                ∙ ap (λ (k : ℕ). lead_at (drop k s) k (n + 1)) (sym w.1)
-            | else-x-eq10 w ↦ lead-cr s c.loop-i.i n (omega arith) w.1.left w.4.left
-                ∙ ap (λ (k : ℕ). lead_at (drop k s) k (n + 1)) (sym w.5)
+            | then-x-eq10 w ↦ lead-empty s c.loop-i.i n c.loop-i-test.true w.if-x-eq10.true
+                ∙ ap (λ (k : ℕ). lead_at (drop k s) k (n + 1)) (sym w.i-is)
+            | else-x-eq10+else-x-ne13+else-next-bytes+else-bytes-next-ne10 w ↦ lead-cr s c.loop-i.i n (omega arith) w.if-x-ne13.false w.if-bytes-next-ne10.false
+                ∙ ap (λ (k : ℕ). lead_at (drop k s) k (n + 1)) (sym w.i-is)
           ],
     )
 

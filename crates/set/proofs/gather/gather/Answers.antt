@@ -18,7 +18,7 @@ loop-reader-init c =
     (refl, omega arith, h, refl, refl, refl)
 
 pub shape_of-table-then-not-is_whole : goal.shape_of-table-then-not-is_whole
-shape_of-table-then-not-is_whole c = c.look-look.auto.1.1.0 ∙ c.loop-reader.invariant.3
+shape_of-table-then-not-is_whole c = c.look-look.auto.ends ∙ c.loop-reader.invariant.3
 
 pub shape_of-marks-then-not-is_whole : goal.shape_of-marks-then-not-is_whole
 shape_of-marks-then-not-is_whole c = c.loop-reader.invariant.4
@@ -31,10 +31,10 @@ returns-then-not-is_whole c =
     let k = c.look-look in
     let g : Gathered = gathered c.loop-reader.reader c.loop-reader.table c.loop-reader.count c.loop-reader.used c.loop-reader.marks c.loop-reader.ends in
     let w = c.args.window.now in
-    sym (c.loop-reader.invariant.0 ∙ gather-stops w g (seen_by k.result.sight) k.result.reader k.new.1.1.0 k.ensures c.loop-reader.left (failed c.is_whole.ensures c.if-not-is_whole.true-raw))
+    sym (c.loop-reader.invariant.0 ∙ gather-stops w g (seen_by k.result.sight) k.result.reader k.new.ends k.ensures c.loop-reader.left (failed c.is_whole.ensures c.if-not-is_whole.true-raw))
 
 pub shape_of-table-then-left-eq0 : goal.shape_of-table-then-left-eq0
-shape_of-table-then-left-eq0 c = c.look-look.auto.1.1.0 ∙ c.loop-reader.invariant.3
+shape_of-table-then-left-eq0 c = c.look-look.auto.ends ∙ c.loop-reader.invariant.3
 
 pub shape_of-marks-then-left-eq0 : goal.shape_of-marks-then-left-eq0
 shape_of-marks-then-left-eq0 c = c.loop-reader.invariant.4
@@ -48,11 +48,11 @@ returns-then-left-eq0 c =
     let g : Gathered = gathered c.loop-reader.reader c.loop-reader.table c.loop-reader.count c.loop-reader.used c.loop-reader.marks c.loop-reader.ends in
     let w = c.args.window.now in
     let t = passed c.is_whole.ensures c.if-not-is_whole.false-raw in
-    ap (λ (r : Reader). gathered r k.new.1.1.0 c.loop-reader.count c.loop-reader.used c.loop-reader.marks c.loop-reader.ends) c.put_back.ensures
-    ∙ sym (c.loop-reader.invariant.0 ∙ ap (λ (n : ℕ). gather n w g) c.if-left-eq0.true ∙ gather-full w g (seen_by k.result.sight) k.result.reader k.new.1.1.0 k.ensures t)
+    ap (λ (r : Reader). gathered r k.new.ends c.loop-reader.count c.loop-reader.used c.loop-reader.marks c.loop-reader.ends) c.put_back.ensures
+    ∙ sym (c.loop-reader.invariant.0 ∙ ap (λ (n : ℕ). gather n w g) c.if-left-eq0.true ∙ gather-full w g (seen_by k.result.sight) k.result.reader k.new.ends k.ensures t)
 
 pub shape_of-table-then-not-fits : goal.shape_of-table-then-not-fits
-shape_of-table-then-not-fits c = c.look-look.auto.1.1.0 ∙ c.loop-reader.invariant.3
+shape_of-table-then-not-fits c = c.look-look.auto.ends ∙ c.loop-reader.invariant.3
 
 pub shape_of-marks-then-not-fits : goal.shape_of-marks-then-not-fits
 shape_of-marks-then-not-fits c = c.loop-reader.invariant.4
@@ -66,14 +66,14 @@ returns-then-not-fits c =
     let g : Gathered = gathered c.loop-reader.reader c.loop-reader.table c.loop-reader.count c.loop-reader.used c.loop-reader.marks c.loop-reader.ends in
     let w = c.args.window.now in
     let t = passed c.is_whole.ensures c.if-not-is_whole.false-raw in
-    ap (λ (r : Reader). gathered r k.new.1.1.0 c.loop-reader.count c.loop-reader.used c.loop-reader.marks c.loop-reader.ends) c.put_back-then-not-fits.ensures
-    ∙ sym (c.loop-reader.invariant.0 ∙ gather-misfit w g (seen_by k.result.sight) k.result.reader k.new.1.1.0 k.ensures t c.loop-reader.left (failed c.fits2.ensures c.if-not-fits.true-raw))
+    ap (λ (r : Reader). gathered r k.new.ends c.loop-reader.count c.loop-reader.used c.loop-reader.marks c.loop-reader.ends) c.put_back-then-not-fits.ensures
+    ∙ sym (c.loop-reader.invariant.0 ∙ gather-misfit w g (seen_by k.result.sight) k.result.reader k.new.ends k.ensures t c.loop-reader.left (failed c.fits.ensures c.if-not-fits.true-raw))
 
 pub put-used-requires : goal.put-used-requires
 put-used-requires c =
     let k = c.look-look in
     let n = k.result.reader.mark.count in
-    let t = passed c.fits2.ensures c.if-not-fits.false-raw in
+    let t = passed c.fits.ensures c.if-not-fits.false-raw in
     let some = c.if-left-eq0.false in
     let room = c.requires.0 in
     let turns = c.loop-reader.invariant.1 in
@@ -101,20 +101,20 @@ loop-reader-preserved c =
     let w = c.args.window.now in
     let p = c.put-used in
     let t = passed c.is_whole.ensures c.if-not-is_whole.false-raw in
-    let f = passed c.fits2.ensures c.if-not-fits.false-raw in
+    let f = passed c.fits.ensures c.if-not-fits.false-raw in
     let some = c.if-left-eq0.false in
     let turns = c.loop-reader.invariant.1 in
     let n = k.result.reader.mark.count in
     let fit = leb-true (c.loop-reader.used + n) (length c.loop-reader.ends) f in
     let to : p.result ≡ c.loop-reader.used + n = ap (λ (q : Gathered). q.used) p.ensures in
-    let es : length p.new.1.1.1.1.1.0 ≡ length c.loop-reader.ends = p.auto.1.1.1.1.1.0 in (
+    let es : length p.new.ends ≡ length c.loop-reader.ends = p.auto.ends in (
       c.loop-reader.invariant.0
-          ∙ gather-on w g (seen_by k.result.sight) k.result.reader k.new.1.1.0 k.ensures t c.loop-reader.left some f
+          ∙ gather-on w g (seen_by k.result.sight) k.result.reader k.new.ends k.ensures t c.loop-reader.left some f
           ∙ ap (λ (q : Gathered). gather (c.loop-reader.left - 1) w q) (sym p.ensures)
-          ∙ ap (λ (m : ℕ). gather (c.loop-reader.left - 1) w (gathered k.result.reader k.new.1.1.0 m p.result p.new.1.1.1.1.0 p.new.1.1.1.1.1.0)) (sym (add-one c.loop-reader.count)),
+          ∙ ap (λ (m : ℕ). gather (c.loop-reader.left - 1) w (gathered k.result.reader k.new.ends m p.result p.new.marks p.new.ends)) (sym (add-one c.loop-reader.count)),
       omega arith,
       omega arith,
-      k.auto.1.1.0 ∙ c.loop-reader.invariant.3,
-      p.auto.1.1.1.1.0 ∙ c.loop-reader.invariant.4,
+      k.auto.ends ∙ c.loop-reader.invariant.3,
+      p.auto.marks ∙ c.loop-reader.invariant.4,
       es ∙ c.loop-reader.invariant.5,
     )

@@ -35,7 +35,7 @@ returns-then-not-fits c =
     let es = a.ends.now in
     λ s. c.leave-then-not-fits.ensures w e bs ms es
     ∙ ap (λ (r : Reader). refused12 a.set bs ms es r w e) c.put_back-then-not-fits.ensures
-    ∙ sym (ap (λ (n : ℕ). collected_in a.set bs ms es n (does s a.reader w e)) (half_is ms) ∙ collected-misfit a.set bs ms es (does s a.reader w e) (length ms / 2) (failed c.fits2.ensures c.if-not-fits.true-raw))
+    ∙ sym (ap (λ (n : ℕ). collected_in a.set bs ms es n (does s a.reader w e)) (half_is ms) ∙ collected-misfit a.set bs ms es (does s a.reader w e) (length ms / 2) (failed c.fits.ensures c.if-not-fits.true-raw))
 
 pub put-lines-requires : goal.put-lines-requires
 put-lines-requires c =
@@ -44,7 +44,7 @@ put-lines-requires c =
     let half = half-bound a.marks.now in
     record {
       marks_fit = omega arith;
-      ends_fit = leb-true (0 + a.reader.mark.count) (length a.ends.now) (passed c.fits2.ensures c.if-not-fits.false-raw);
+      ends_fit = leb-true (0 + a.reader.mark.count) (length a.ends.now) (passed c.fits.ensures c.if-not-fits.false-raw);
     }
 
 pub gather-way-requires : goal.gather-way-requires
@@ -53,17 +53,17 @@ gather-way-requires c =
     let p = c.put-lines in
     let some = c.if-room-eq0.false in
     let half = half-bound a.marks.now in
-    let fit = leb-true (0 + a.reader.mark.count) (length a.ends.now) (passed c.fits2.ensures c.if-not-fits.false-raw) in
+    let fit = leb-true (0 + a.reader.mark.count) (length a.ends.now) (passed c.fits.ensures c.if-not-fits.false-raw) in
     let to : p.result ≡ 0 + a.reader.mark.count = ap (λ (q : Gathered). q.used) p.ensures in
-    let ms : length p.new.1.1.1.1.0 ≡ length a.marks.now = p.auto.1.1.1.1.0 in
-    let es : length p.new.1.1.1.1.1.0 ≡ length a.ends.now = p.auto.1.1.1.1.1.0 in
+    let ms : length p.new.marks ≡ length a.marks.now = p.auto.marks in
+    let es : length p.new.ends ≡ length a.ends.now = p.auto.ends in
     (omega arith, omega arith)
 
 pub shape_of-marks : goal.shape_of-marks
-shape_of-marks c = c.gather-way.auto.1.1.1.1.1.0 ∙ c.put-lines.auto.1.1.1.1.0
+shape_of-marks c = c.gather-way.auto.marks ∙ c.put-lines.auto.marks
 
 pub shape_of-ends : goal.shape_of-ends
-shape_of-ends c = c.gather-way.auto.1.1.1.1.1.1.0 ∙ c.put-lines.auto.1.1.1.1.1.0
+shape_of-ends c = c.gather-way.auto.ends ∙ c.put-lines.auto.ends
 
 pub returns : goal.returns
 returns c =
@@ -76,9 +76,9 @@ returns c =
     let p = c.put-lines in
     let g = c.gather-way in
     let k = c.copy_filled in
-    let t = passed c.fits2.ensures c.if-not-fits.false-raw in
+    let t = passed c.fits.ensures c.if-not-fits.false-raw in
     let room = length ms / 2 in
-    λ s. c.hold.ensures w g.new.1.1.1.1.0 k.new.1.1.0 g.new.1.1.1.1.1.0 g.new.1.1.1.1.1.1.0
-    ∙ ap (λ (q : Gathered). holding a.reader q w k.new.1.1.0) (g.ensures ∙ ap (λ (q : Gathered). gather (room - 1) w q) p.ensures)
+    λ s. c.hold.ensures w g.new.table k.new.bytes g.new.marks g.new.ends
+    ∙ ap (λ (q : Gathered). holding a.reader q w k.new.bytes) (g.ensures ∙ ap (λ (q : Gathered). gather (room - 1) w q) p.ensures)
     ∙ ap (λ (l : List ℕ). holding a.reader (gather (room - 1) w (put (gathered a.reader e 0 0 ms es))) w l) k.ensures
     ∙ sym (ap (λ (n : ℕ). collected_in a.set bs ms es n (does s a.reader w e)) (half_is ms) ∙ collected a.set bs ms es (does s a.reader w e) room c.if-room-eq0.false t)

@@ -29,8 +29,8 @@ slice_bounds-desc_in-start c =
     let h = inside a.set a.bytes.now a.marks.now a.ends.now a.i c.record.ensures c.in-At.is in
     search rules
 
-pub slice_bounds-desc_in-end : goal.slice_bounds-desc_in-end
-slice_bounds-desc_in-end c =
+pub slice_bounds-desc_in-end-in-At : goal.slice_bounds-desc_in-end-in-At
+slice_bounds-desc_in-end-in-At c =
     let a = c.args in
     let h = inside a.set a.bytes.now a.marks.now a.ends.now a.i c.record.ensures c.in-At.is in
     search rules

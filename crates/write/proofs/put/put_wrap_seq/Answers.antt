@@ -31,7 +31,7 @@ loop-i-preserved c =
     let a = c.args in
     let parts = wrap-next a.wrap c.loop-i.i c.line_end-end.result a.seq.now c.requires.wide (omega arith) c.line_end-end.ensures in (
       omega (arith, c.line_end-end.ensures),
-      c.put_seq-behind.auto.1.0 ∙ c.loop-i.invariant.1,
+      c.put_seq-behind.auto.out ∙ c.loop-i.invariant.1,
       rest-next (wrap_seq_text a.wrap (drop c.line_end-end.result a.seq.now))
           (fits-as c.loop-i.behind c.loop-i.out parts (omega (arith, c.loop-i.invariant.2.place, c.requires.room)))
           (rest-as parts c.loop-i.invariant.2)

@@ -11,7 +11,7 @@ use Rattle.reader.specs.State.{Good}
 use Rattle.reader.specs.Read.{asked, hunted, passed}
 use Rattle.reader.proofs.Sanity.{failed, passed as held}
 use Rattle.reader.proofs.ReadLaws.{behind-ended, behind-next, waits, is-ready, neither, passed-good}
-use Rattle.reader.proofs.state.Reader.behind.Goals.{else-fill-via-else-fill, else-fill-via-then-fill}
+use Rattle.reader.proofs.state.Reader.behind.Goals.{else-fill-via-else-fill, else-fill-via-then-fill+else-search-fill}
 use Rattle.reader.proofs.state.Reader.behind.Goals as goal
 
 pub returns-then-search-fill : goal.returns-then-search-fill
@@ -20,7 +20,7 @@ returns-then-search-fill c =
 
 pub ask-requires : goal.ask-requires
 ask-requires c =
-    subst (λ (x : Reader). x.fill.base.0 + x.fill.filled ≤ most) (sym c.begin-next.ensures) c.requires.is_sane.window_sound.input_fits
+    subst (λ (x : Reader). x.fill.base.0 + x.fill.filled ≤ most) (sym c.begin-next.ensures) c.requires.is-sane.window_sound.input_fits
 
 pub returns-then-not-is_ready : goal.returns-then-not-is_ready
 returns-then-not-is_ready c =
@@ -28,7 +28,7 @@ returns-then-not-is_ready c =
     let w = c.args.window.now in
     let e = c.args.ends.now in
     let t : (r.fill.told && eqb r.mark.search.0 r.fill.filled) ≡ false =
-    neither r.fill.told (eqb r.mark.search.0 r.fill.filled) (elim c.else-fill.branch [ else-fill-via-then-fill q ↦ inr q.2.left | else-fill-via-else-fill q ↦ inl q.left ]) in
+    neither r.fill.told (eqb r.mark.search.0 r.fill.filled) (elim c.else-fill.branch [ else-fill-via-then-fill+else-search-fill q ↦ inr q.if-search-fill.false-raw | else-fill-via-else-fill q ↦ inl q.if-fill.false ]) in
     c.ask.ensures w e
     ∙ ap (λ (x : Reader). asked x w e) c.begin-next.ensures
     ∙ sym (behind-next r w e t ∙ waits hunted (passed r) w e (failed c.is_ready.ensures c.if-not-is_ready.true-raw))
@@ -43,7 +43,7 @@ returns c =
     let w = c.args.window.now in
     let e = c.args.ends.now in
     let t : (r.fill.told && eqb r.mark.search.0 r.fill.filled) ≡ false =
-    neither r.fill.told (eqb r.mark.search.0 r.fill.filled) (elim c.else-fill.branch [ else-fill-via-then-fill q ↦ inr q.2.left | else-fill-via-else-fill q ↦ inl q.left ]) in
+    neither r.fill.told (eqb r.mark.search.0 r.fill.filled) (elim c.else-fill.branch [ else-fill-via-then-fill+else-search-fill q ↦ inr q.if-search-fill.false-raw | else-fill-via-else-fill q ↦ inl q.if-fill.false ]) in
     c.hunt.ensures
     ∙ ap (λ (x : Reader). hunted x w e) c.begin-next.ensures
     ∙ sym (behind-next r w e t ∙ is-ready hunted (passed r) w e (held c.is_ready.ensures c.if-not-is_ready.false-raw))

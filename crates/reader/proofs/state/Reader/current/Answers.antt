@@ -4,7 +4,7 @@ use lib.Dec.{eqb}
 use borrow.Author.Tests.{not-true, not-false, eqb-true, eqb-false}
 use Rattle.reader.proofs.CallLaws.{current-insane, current-window, current-table, current-none, current-held}
 use Rattle.reader.proofs.Sanity.{passed, failed}
-use Rattle.reader.proofs.state.Reader.current.Goals.{then-fill-window-via-else-fill-window, then-fill-window-via-then-fill-window}
+use Rattle.reader.proofs.state.Reader.current.Goals.{then-fill-window-via-else-fill-window+then-self-ends, then-fill-window-via-then-fill-window}
 use Rattle.reader.proofs.state.Reader.current.Goals as goal
 
 pub returns-then-not-is_sane : goal.returns-then-not-is_sane
@@ -19,9 +19,9 @@ returns-then-fill-window c =
     let tested = c.is_sane in
     let is-sane = passed tested.ensures c.if-not-is_sane.false-raw in
     sym (elim c.then-fill-window.branch [
-      | then-fill-window-via-then-fill-window w ↦ current-window a.self a.window a.ends is-sane w.taken
-      | then-fill-window-via-else-fill-window w ↦ current-table a.self a.window a.ends is-sane w.0.left
-          (eqb-false a.self.slots a.ends (not-true (eqb a.self.slots a.ends) w.2.taken))
+      | then-fill-window-via-then-fill-window w ↦ current-window a.self a.window a.ends is-sane w.if-fill-window.true
+      | then-fill-window-via-else-fill-window+then-self-ends w ↦ current-table a.self a.window a.ends is-sane w.if-fill-window.false
+          (eqb-false a.self.slots a.ends (not-true (eqb a.self.slots a.ends) w.if-self-ends.true-raw))
     ])
 
 pub returns-then-not-is_current : goal.returns-then-not-is_current

@@ -9,7 +9,7 @@ use Rattle.reader.specs.declared.state.Reader.{Reader}
 use Rattle.reader.specs.State.{Good}
 use Rattle.reader.specs.Read.{stopped}
 use Rattle.reader.proofs.ReadLaws.{hunt-over, hunt-goes, hunt-good, neither}
-use Rattle.reader.proofs.state.Reader.hunt.Goals.{else-fill-via-else-fill, else-fill-via-then-fill}
+use Rattle.reader.proofs.state.Reader.hunt.Goals.{else-fill-via-else-fill, else-fill-via-then-fill+else-mark-fill}
 use Rattle.reader.proofs.state.Reader.hunt.Goals as goal
 
 pub returns-then-mark-fill : goal.returns-then-mark-fill
@@ -35,7 +35,7 @@ returns c =
     let x = c.search_in-found.new.ends in
     let s : Recorded = record { out = c.search_in-found.result; ends = x } in
     let t : (r.fill.told && eqb r.mark.start.0 r.fill.filled) ≡ false =
-    neither r.fill.told (eqb r.mark.start.0 r.fill.filled) (elim c.else-fill.branch [ else-fill-via-then-fill q ↦ inr q.3.left | else-fill-via-else-fill q ↦ inl q.left ]) in
+    neither r.fill.told (eqb r.mark.start.0 r.fill.filled) (elim c.else-fill.branch [ else-fill-via-then-fill+else-mark-fill q ↦ inr q.if-mark-fill.false-raw | else-fill-via-else-fill q ↦ inl q.if-fill.false ]) in
     c.stop.ensures
     ∙ ap (λ (y : Reader). stopped c.search_in-found.result.stop y w x) c.reach.ensures
     ∙ sym (hunt-goes r w e t s c.search_in-found.ensures)

@@ -8,7 +8,7 @@ use Rattle.window.specs.Fill.{sound}
 use Rattle.window.proofs.Laws.{not-both, sound-true, true-sound}
 use Rattle.reader.specs.State.{is_current, byte_of}
 use Rattle.reader.proofs.Sanity.{passed, failed, insane, sane-is, byte_fits}
-use Rattle.reader.proofs.state.Reader.is_sane.Goals.{else-is_current-via-else-is_current, else-is_current-via-then-is_current, then-search-start-via-else-search-start, then-search-start-via-then-search-start, then-self-mark-via-else-self-mark, then-self-mark-via-then-self-mark}
+use Rattle.reader.proofs.state.Reader.is_sane.Goals.{else-is_current-via-else-is_current, else-is_current-via-then-is_current+else-mark-eq0, then-search-start-via-else-search-start+then-fill-search, then-search-start-via-then-search-start, then-self-mark-via-else-self-mark+then-search-start-2, then-self-mark-via-then-self-mark}
 use Rattle.reader.proofs.state.Reader.is_sane.Goals as goal
 
 pub returns-then-fill-lt-MIN : goal.returns-then-fill-lt-MIN
@@ -25,13 +25,13 @@ pub returns-then-search-start : goal.returns-then-search-start
 returns-then-search-start c =
     let r = c.args.self in
     insane r
-    (λ s. elim c.then-search-start.branch [ then-search-start-via-then-search-start w ↦ let h = w.taken in let k = s.start_search in omega arith | then-search-start-via-else-search-start w ↦ let h = ltb-true r.fill.filled r.mark.search.0 w.2.taken in let k = s.search_filled in omega arith ])
+    (λ s. elim c.then-search-start.branch [ then-search-start-via-then-search-start w ↦ let k = s.start_search in omega arith | then-search-start-via-else-search-start+then-fill-search w ↦ let k = s.search_filled in omega arith ])
 
 pub returns-then-self-mark : goal.returns-then-self-mark
 returns-then-self-mark c =
     let r = c.args.self in
     insane r
-    (λ s. elim c.then-self-mark.branch [ then-self-mark-via-then-self-mark w ↦ let h = w.taken in let k = s.count_slots in omega arith | then-self-mark-via-else-self-mark w ↦ let h = ltb-true (r.mark.search.0 - r.mark.start.0) r.mark.count w.2.taken in let k = s.count_search in omega arith ])
+    (λ s. elim c.then-self-mark.branch [ then-self-mark-via-then-self-mark w ↦ let k = s.count_slots in omega arith | then-self-mark-via-else-self-mark+then-search-start-2 w ↦ let k = s.count_search in omega arith ])
 
 pub returns-then-mark-eq0 : goal.returns-then-mark-eq0
 returns-then-mark-eq0 c =
@@ -75,7 +75,7 @@ returns c =
       count_slots = c.if-self-mark.false;
       count_search = ltb-false (r.mark.search.0 - r.mark.start.0) r.mark.count c.if-search-start-2.false-raw;
       current_has_end =
-          λ is. elim c.else-is_current.branch [ else-is_current-via-then-is_current w ↦ let u = eqb-false r.mark.count 0 w.2.left in omega arith | else-is_current-via-else-is_current w ↦ absurd (not-both (is_current r.phase) is (sym called.ensures ∙ w.left)) ];
+          λ is. elim c.else-is_current.branch [ else-is_current-via-then-is_current+else-mark-eq0 w ↦ omega arith | else-is_current-via-else-is_current w ↦ absurd (not-both (is_current r.phase) is (sym called.ensures ∙ w.if-is_current.false)) ];
       line_least = let u = c.if-mark-eq0-2.false in omega arith;
       line_most = leb-true r.mark.line (byte_of r + 1) e;
     })

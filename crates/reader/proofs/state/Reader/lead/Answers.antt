@@ -14,7 +14,7 @@ returns-then-not-is_ready c =
 pub slice_bounds-lead-end-2 : goal.slice_bounds-lead-end-2
 slice_bounds-lead-end-2 c =
     let r = c.args.self in
-    let v = c.requires.is_sane.window_sound in
+    let v = c.requires.is-sane.window_sound in
     sym (length-take-le r.fill.filled c.args.window.now (omega (arith, v.filled_fits, v.capacity_fits, c.requires.window_lent)))
 
 pub lead_to-requires : goal.lead_to-requires

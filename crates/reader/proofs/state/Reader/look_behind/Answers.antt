@@ -10,7 +10,7 @@ use Rattle.reader.specs.Look.{left_ahead, looks_on}
 use Rattle.reader.proofs.Sanity.{failed, passed as held}
 use Rattle.reader.proofs.ReadLaws.{neither, passed-good}
 use Rattle.reader.proofs.LookLaws.{look-over, look-waits, look-goes}
-use Rattle.reader.proofs.state.Reader.look_behind.Goals.{else-fill-via-else-fill, else-fill-via-then-fill}
+use Rattle.reader.proofs.state.Reader.look_behind.Goals.{else-fill-via-else-fill, else-fill-via-then-fill+else-search-fill}
 use Rattle.reader.proofs.state.Reader.look_behind.Goals as goal
 
 pub returns-then-search-fill : goal.returns-then-search-fill
@@ -26,7 +26,7 @@ returns-then-not-is_ready c =
     let w = c.args.window.now in
     let e = c.args.ends.now in
     let t : (r.fill.told && eqb r.mark.search.0 r.fill.filled) ≡ false =
-    neither r.fill.told (eqb r.mark.search.0 r.fill.filled) (elim c.else-fill.branch [ else-fill-via-then-fill q ↦ inr q.2.left | else-fill-via-else-fill q ↦ inl q.left ]) in
+    neither r.fill.told (eqb r.mark.search.0 r.fill.filled) (elim c.else-fill.branch [ else-fill-via-then-fill+else-search-fill q ↦ inr q.if-search-fill.false-raw | else-fill-via-else-fill q ↦ inl q.if-fill.false ]) in
     c.leave.ensures e
     ∙ ap (λ (x : Reader). left_ahead x e) c.begin-next.ensures
     ∙ sym (look-waits r w e t (failed c.is_ready.ensures c.if-not-is_ready.true-raw))
@@ -44,7 +44,7 @@ returns c =
     let w = c.args.window.now in
     let e = c.args.ends.now in
     let t : (r.fill.told && eqb r.mark.search.0 r.fill.filled) ≡ false =
-    neither r.fill.told (eqb r.mark.search.0 r.fill.filled) (elim c.else-fill.branch [ else-fill-via-then-fill q ↦ inr q.2.left | else-fill-via-else-fill q ↦ inl q.left ]) in
+    neither r.fill.told (eqb r.mark.search.0 r.fill.filled) (elim c.else-fill.branch [ else-fill-via-then-fill+else-search-fill q ↦ inr q.if-search-fill.false-raw | else-fill-via-else-fill q ↦ inl q.if-fill.false ]) in
     c.look_on.ensures
     ∙ ap (λ (x : Reader). looks_on x w e) c.begin-next.ensures
     ∙ sym (look-goes r w e t (held c.is_ready.ensures c.if-not-is_ready.false-raw))

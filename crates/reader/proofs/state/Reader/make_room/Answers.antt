@@ -8,7 +8,7 @@ use Rattle.reader.proofs.state.Reader.make_room.Goals as goal
 pub ask-requires : goal.ask-requires
 ask-requires c =
     let r = c.args.self in
-    room_fits r c.requires.is_sane c.slide-fill.result c.slide-fill.ensures.0
+    room_fits r c.requires.is-sane c.slide-fill.result c.slide-fill.ensures.0
 
 pub returns-then-start-gt0 : goal.returns-then-start-gt0
 returns-then-start-gt0 c =
@@ -18,7 +18,7 @@ returns-then-start-gt0 c =
 pub ask-requires-in-To : goal.ask-requires-in-To
 ask-requires-in-To c =
     let r = c.args.self in
-    wider-fits r c.requires.is_sane _ (sym (ap (λ (x : Widened). widened_says x r.fill) c.in-To.is) ∙ c.grow.ensures)
+    wider-fits r c.requires.is-sane _ (sym (ap (λ (x : Widened). widened_says x r.fill) c.in-To.is) ∙ c.grow.ensures)
 
 pub returns-in-To : goal.returns-in-To
 returns-in-To c =

@@ -15,14 +15,14 @@ returns-then-capacity-lt-MIN c =
     let a = c.args in
     let lent = length a.window.now in
     sym (setup-refused a.capacity lent (length a.ends.now) a.policy
-    (λ s. elim c.then-capacity-lt-MIN.branch [ then-capacity-lt-MIN-via-then-capacity-lt-MIN w ↦ let h = w.taken in let k = s.capacity_least in omega arith | then-capacity-lt-MIN-via-else-capacity-lt-MIN+then-lent-capacity w ↦ let h = ltb-true lent a.capacity w.1.taken in let k = s.capacity_fits in omega arith ]))
+    (λ s. elim c.then-capacity-lt-MIN.branch [ then-capacity-lt-MIN-via-then-capacity-lt-MIN w ↦ let k = s.capacity_least in omega arith | then-capacity-lt-MIN-via-else-capacity-lt-MIN+then-lent-capacity w ↦ let k = s.capacity_fits in omega arith ]))
 
 pub returns-then-lent-gt2147483648 : goal.returns-then-lent-gt2147483648
 returns-then-lent-gt2147483648 c =
     let a = c.args in
     let slots = length a.ends.now in
     sym (setup-refused a.capacity (length a.window.now) slots a.policy
-    (λ s. elim c.then-lent-gt2147483648.branch [ then-lent-gt2147483648-via-then-lent-gt2147483648 w ↦ let h = w.taken in let k = s.window_most in omega arith | then-lent-gt2147483648-via-else-lent-gt2147483648+then-slots-eq0 w ↦ s.has_slot (eqb-true slots 0 w.1.taken) ]))
+    (λ s. elim c.then-lent-gt2147483648.branch [ then-lent-gt2147483648-via-then-lent-gt2147483648 w ↦ let k = s.window_most in omega arith | then-lent-gt2147483648-via-else-lent-gt2147483648+then-slots-eq0 w ↦ s.has_slot w.if-slots-eq0.true ]))
 
 pub returns : goal.returns
 returns c =

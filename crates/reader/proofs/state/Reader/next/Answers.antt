@@ -5,7 +5,7 @@ use mathlib.Core.Path.{◌≡◌, refl, sym, ap, ◌∙◌}
 use Rattle.reader.specs.Read.{lasts}
 use Rattle.reader.proofs.Sanity.{passed, failed, true-sane}
 use Rattle.reader.proofs.ReadLaws.{neither, lent-true, unlent-window, unlent-table, read-insane, read-unlent, read-repeats, read_goes, repeat-ask}
-use Rattle.reader.proofs.state.Reader.next.Goals.{else-fill-via-else-fill, else-fill-via-then-fill}
+use Rattle.reader.proofs.state.Reader.next.Goals.{else-fill-via-else-fill, else-fill-via-then-fill+else-not-is_lasting}
 use Rattle.reader.proofs.state.Reader.next.Goals as goal
 
 pub returns-then-not-is_sane : goal.returns-then-not-is_sane
@@ -59,5 +59,5 @@ returns c =
     let u = lent-true r w e c.if-fill-window.false c.if-self-ends.false in
     let v : (not (lasts r.phase) && r.fill.asking) ≡ false =
     neither (not (lasts r.phase)) r.fill.asking
-    (elim c.else-fill.branch [ else-fill-via-then-fill q ↦ inl (ap not (sym q.1.ensures) ∙ q.2.left) | else-fill-via-else-fill q ↦ inr q.left ]) in
+    (elim c.else-fill.branch [ else-fill-via-then-fill+else-not-is_lasting q ↦ inl (ap not (sym q.is_lasting.ensures) ∙ q.if-not-is_lasting.false-raw) | else-fill-via-else-fill q ↦ inr q.if-fill.false ]) in
     c.read_in.ensures ∙ sym (read_goes r w e t u v)

@@ -9,7 +9,7 @@ use Rattle.reader.proofs.state.Reader.search_in.Goals as goal
 pub slice_bounds-search-end : goal.slice_bounds-search-end
 slice_bounds-search-end c =
     let r = c.args.self in
-    let v = c.requires.is_sane.window_sound in
+    let v = c.requires.is-sane.window_sound in
     sym (length-take-le r.fill.filled c.args.window.now (omega (arith, v.filled_fits, v.capacity_fits, c.requires.window_lent)))
 
 pub returns : goal.returns

@@ -13,7 +13,7 @@ returns-then-not-is_ready c =
 pub slice_bounds-are_rising-end-2 : goal.slice_bounds-are_rising-end-2
 slice_bounds-are_rising-end-2 c =
     let r = c.args.self in
-    sym (length-take-le r.mark.count c.args.ends.now (omega (arith, c.requires.is_sane.count_slots, c.requires.table_lent)))
+    sym (length-take-le r.mark.count c.args.ends.now (omega (arith, c.requires.is-sane.count_slots, c.requires.table_lent)))
 
 pub returns-then-not-are_rising : goal.returns-then-not-are_rising
 returns-then-not-are_rising c =

@@ -12,7 +12,7 @@ use Rattle.reader.specs.State.{Good}
 use Rattle.reader.specs.Read.{hunted, sought_at}
 use Rattle.reader.proofs.Sanity.{failed, passed as held}
 use Rattle.reader.proofs.ReadLaws.{waits, is-ready, sought-mark, sought-astray, begins-good, neither}
-use Rattle.reader.proofs.state.Reader.sought.Goals.{else-start-fill, then-start-fill}
+use Rattle.reader.proofs.state.Reader.sought.Goals.{else-start-fill, then-start-fill+else-window-start-eq62}
 use Rattle.reader.proofs.state.Reader.sought.Goals as goal
 
 pub returns-then-not-is_ready : goal.returns-then-not-is_ready
@@ -22,7 +22,7 @@ returns-then-not-is_ready c =
 pub hunt-requires : goal.hunt-requires
 hunt-requires c =
     let r = c.args.self in
-    let m = c.requires.is_sane in
+    let m = c.requires.is-sane in
     let h : r.mark.start.0 ≤ r.fill.filled = omega (arith, m.start_search, m.search_filled) in
     subst (λ (x : Reader). Good x c.args.window.now c.args.ends.now) (sym c.begin.ensures)
     (begins-good r c.args.window.now c.args.ends.now c.requires r.mark.start.0 r.mark.line h m.line_least m.line_most)
@@ -42,5 +42,5 @@ returns c =
     let w = c.args.window.now in
     let e = c.args.ends.now in
     let t : (ltb r.mark.start.0 r.fill.filled && eqb (get_or w r.mark.start.0 0) 62) ≡ false =
-    neither (ltb r.mark.start.0 r.fill.filled) (eqb (get_or w r.mark.start.0 0) 62) (elim c.if-start-fill.branch [ then-start-fill q ↦ inr (ne_eqb _ _ q.2.left) | else-start-fill q ↦ inl (le-ltb _ _ q.left) ]) in
+    neither (ltb r.mark.start.0 r.fill.filled) (eqb (get_or w r.mark.start.0 0) 62) (elim c.if-start-fill.branch [ then-start-fill+else-window-start-eq62 q ↦ inr (ne_eqb _ _ q.if-window-start-eq62.false) | else-start-fill q ↦ inl (le-ltb _ _ q.if-start-fill.false) ]) in
     sym (is-ready sought_at r w e (held c.is_ready.ensures c.if-not-is_ready.false-raw) ∙ sought-astray r w e t)

@@ -4,14 +4,14 @@ use native.Mathlib.Omega.{arith}
 use lib.Dec.{leb}
 use borrow.Author.Tests.{ltb-true, ltb-false, le-leb, leb-true}
 use Rattle.set.proofs.Numbers.{sound-is, unsound}
-use Rattle.set.proofs.state.Set.is_sound.Goals.{then-bytes-self-via-else-bytes-self, then-bytes-self-via-then-bytes-self}
+use Rattle.set.proofs.state.Set.is_sound.Goals.{then-bytes-self-via-else-bytes-self+then-marks-self, then-bytes-self-via-then-bytes-self}
 use Rattle.set.proofs.state.Set.is_sound.Goals as goal
 
 pub returns-then-bytes-self : goal.returns-then-bytes-self
 returns-then-bytes-self c =
     let a = c.args in
     unsound a.self a.bytes a.marks
-    (λ f. elim c.then-bytes-self.branch [ then-bytes-self-via-then-bytes-self w ↦ let h = w.taken in let k = f.filled_fits in omega arith | then-bytes-self-via-else-bytes-self w ↦ let h = ltb-true a.marks a.self.count w.2.taken in let k = f.count_fits in omega arith ])
+    (λ f. elim c.then-bytes-self.branch [ then-bytes-self-via-then-bytes-self w ↦ let k = f.filled_fits in omega arith | then-bytes-self-via-else-bytes-self+then-marks-self w ↦ let k = f.count_fits in omega arith ])
 
 pub returns : goal.returns
 returns c =

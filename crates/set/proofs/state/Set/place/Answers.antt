@@ -6,7 +6,7 @@ use borrow.Author.Tests.{ltb-true, ltb-false}
 use Rattle.window.specs.Fill.{most}
 use Rattle.window.specs.declared.offset.InputOffset.{InputOffset}
 use Rattle.set.proofs.Places.{placed-out, placed-above, placed_at, sum_is, sum-beyond}
-use Rattle.set.proofs.state.Set.place.Goals.{then-line-eq0-via-else-line-eq0, then-line-eq0-via-then-line-eq0, then-most-self-via-else-most-self+then-most-ends, then-most-self-via-then-most-self}
+use Rattle.set.proofs.state.Set.place.Goals.{then-line-eq0-via-else-line-eq0+then-byte-line, then-line-eq0-via-then-line-eq0, then-most-self-via-else-most-self+then-most-ends, then-most-self-via-then-most-self}
 use Rattle.set.proofs.state.Set.place.Goals as goal
 
 pub returns-then-most-byte : goal.returns-then-most-byte
@@ -24,7 +24,7 @@ returns-then-most-self c =
     (λ p.
     let l = p.line_most in
     let m = p.byte_most in
-    elim c.then-most-self.branch [ then-most-self-via-then-most-self w ↦ let h = w.taken in omega arith | then-most-self-via-else-most-self+then-most-ends w ↦ let h = ltb-true (most + 1) a.before w.1.taken in omega arith ]))
+    elim c.then-most-self.branch [ then-most-self-via-then-most-self w ↦ omega arith | then-most-self-via-else-most-self+then-most-ends w ↦ omega arith ]))
 
 pub overflow_add-line : goal.overflow_add-line
 overflow_add-line c =
@@ -39,7 +39,7 @@ returns-then-line-eq0 c =
     let e = ap (λ (o : InputOffset). o.0) c.to_input-byte.ensures in
     let h = c.if-most-byte.false in
     let k = sum_is (a.self.base.0 + a.start) (omega arith) in
-    sym (elim c.then-line-eq0.branch [ then-line-eq0-via-then-line-eq0 w ↦ placed-out (a.self.line + a.before) (a.self.base.0 + a.start) (λ p. p.line_least w.taken) | then-line-eq0-via-else-line-eq0 w ↦ placed-above (a.self.line + a.before) (a.self.base.0 + a.start) (e ∙ k) w.2.taken ])
+    sym (elim c.then-line-eq0.branch [ then-line-eq0-via-then-line-eq0 w ↦ placed-out (a.self.line + a.before) (a.self.base.0 + a.start) (λ p. p.line_least w.if-line-eq0.true) | then-line-eq0-via-else-line-eq0+then-byte-line w ↦ placed-above (a.self.line + a.before) (a.self.base.0 + a.start) (e ∙ k) w.if-byte-line.true-raw ])
 
 pub returns : goal.returns
 returns c =

@@ -36,11 +36,8 @@ returns-then-to-from c =
     let fits = passed c.is_sound.ensures c.if-not-is_sound.false-raw in
     let low = c.if-self-i.false in
     sym (elim c.then-to-from.branch [
-      | then-to-from-via-then-to-from w ↦ let h = w.taken in record-endless a.self a.bytes a.marks.now a.ends a.i fits low (omega arith)
-      | then-to-from-via-else-to-from+then-ends-to w ↦ (λ w.
-          let h = w.0.left in
-          let k = ltb-true a.ends _ w.1.taken in
-          record-beyond a.self a.bytes a.marks.now a.ends a.i fits low (omega arith) (omega arith)) w
+      | then-to-from-via-then-to-from w ↦ record-endless a.self a.bytes a.marks.now a.ends a.i fits low (omega arith)
+      | then-to-from-via-else-to-from+then-ends-to w ↦ record-beyond a.self a.bytes a.marks.now a.ends a.i fits low (omega arith) (omega arith)
     ])
 
 pub start_of-requires : goal.start_of-requires
@@ -51,7 +48,7 @@ start_of-requires c =
 pub returns : goal.returns
 returns c =
     let a = c.args in
-    let start = c.start_of_lem.ensures in
+    let start = c.start_of.ensures in
     let from = c.ends_before-from.ensures in
     let to = c.ends_to-to.ensures in
     let h = c.if-to-from.false in

@@ -5,14 +5,14 @@ use lib.Dec.{leb}
 use borrow.Author.Tests.{leb-true, le-leb, ltb-true, ltb-false, eqb-true, eqb-false}
 use Rattle.window.specs.Fill.{most}
 use Rattle.window.proofs.Laws.{not-both, sound-is, unsound}
-use Rattle.window.proofs.fill.Fill.is_sound.Goals.{else-self-3-via-else-self-3, else-self-3-via-then-self-3, then-self-via-else-self, then-self-via-then-self}
+use Rattle.window.proofs.fill.Fill.is_sound.Goals.{else-self-3-via-else-self-3, else-self-3-via-then-self-3+else-self-4, then-self-via-else-self+then-self-2, then-self-via-then-self}
 use Rattle.window.proofs.fill.Fill.is_sound.Goals as goal
 
 pub returns-then-self : goal.returns-then-self
 returns-then-self c =
     let f = c.args.self in
     unsound f
-    (λ s. elim c.then-self.branch [ then-self-via-then-self w ↦ let h = w.taken in omega arith | then-self-via-else-self w ↦ let h = ltb-true f.lent f.capacity w.2.taken in omega arith ])
+    (λ s. elim c.then-self.branch [ then-self-via-then-self w ↦ omega arith | then-self-via-else-self+then-self-2 w ↦ omega arith ])
 
 pub returns-then-self-4 : goal.returns-then-self-4
 returns-then-self-4 c =
@@ -33,7 +33,7 @@ returns-then-base-le-MOST c =
       filled_fits = c.if-self.false;
       capacity_fits = ltb-false f.lent f.capacity c.if-self-2.false-raw;
       ask_has_room =
-          λ e. elim c.else-self-3.branch [ else-self-3-via-then-self-3 w ↦ let u = eqb-false f.filled f.capacity w.2.left in let v = c.if-self.false in omega arith | else-self-3-via-else-self-3 w ↦ absurd (not-both f.asking e w.left) ];
+          λ e. elim c.else-self-3.branch [ else-self-3-via-then-self-3+else-self-4 w ↦ let v = c.if-self.false in omega arith | else-self-3-via-else-self-3 w ↦ absurd (not-both f.asking e w.if-self-3.false) ];
       input_fits = let h = leb-true f.filled left e in omega arith;
     })
     (λ s. le-leb f.filled left (omega arith))

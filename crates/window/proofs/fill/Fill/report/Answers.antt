@@ -34,7 +34,7 @@ returns-then-not-self c =
     let n = c.args.count in
     let called = c.less-room in
     sym (reported-refused f n
-    (λ a. elim c.then-not-self.branch [ then-not-self-via-then-not-self w ↦ not-both f.asking a.is_open (not-true f.asking w.taken) | then-not-self-via-else-not-self+then-room-count w ↦ let h = ltb-true called.result n w.1.taken in let e = called.ensures in omega arith ]))
+    (λ a. elim c.then-not-self.branch [ then-not-self-via-then-not-self w ↦ not-both f.asking a.is_open (not-true f.asking w.if-not-self.true) | then-not-self-via-else-not-self+then-room-count w ↦ let e = called.ensures in omega arith ]))
 
 pub returns-then-passes : goal.returns-then-passes
 returns-then-passes c =

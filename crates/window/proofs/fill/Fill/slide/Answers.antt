@@ -7,7 +7,7 @@ use Rattle.window.specs.declared.fill.Fill.{Fill}
 use Rattle.window.specs.declared.offset.InputOffset.{InputOffset}
 use Rattle.window.specs.Fill.{most}
 use Rattle.window.proofs.Laws.{slid-inside, slid-window-inside, slid-outside, slid-window-outside, input-fits-word}
-use Rattle.window.proofs.fill.Fill.slide.Goals.{then-filled-n-via-else-filled-n, then-filled-n-via-then-filled-n}
+use Rattle.window.proofs.fill.Fill.slide.Goals.{then-filled-n-via-else-filled-n+then-passes, then-filled-n-via-then-filled-n}
 use Rattle.window.proofs.fill.Fill.slide.Goals as goal
 
 pub returns-then-filled-n : goal.returns-then-filled-n
@@ -15,7 +15,7 @@ returns-then-filled-n c =
     let a = c.args in
     let f = a.self in
     let out : a.n ≤ f.filled → f.base.0 + f.filled ≤ most → ⊥ =
-    λ h k. elim c.then-filled-n.branch [ then-filled-n-via-then-filled-n w ↦ let u = w.taken in omega arith | then-filled-n-via-else-filled-n w ↦ let u = ltb-true most (f.base.0 + f.filled + 0) (sym w.1.ensures ∙ w.2.taken) in omega arith ] in
+    λ h k. elim c.then-filled-n.branch [ then-filled-n-via-then-filled-n w ↦ omega arith | then-filled-n-via-else-filled-n+then-passes w ↦ let u = ltb-true most (f.base.0 + f.filled + 0) (sym w.passes.ensures ∙ w.if-passes.true) in omega arith ] in
     (sym (slid-outside f a.n out), sym (slid-window-outside f a.n out a.window.now))
 
 pub returns : goal.returns
