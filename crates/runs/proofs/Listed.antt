@@ -241,9 +241,11 @@ module _ (X : List ℕ) (capacity : ℕ) (policy : Policy) (start : State) (made
       lists-on (brought n ∷ h) _ text (by_report n w h s r taken brings) o k rest
   lists-on h _ _ r o k (listed s l b more said rest) =
       let run = subst (λ (a : Said). Run X start (read a ∷ h) (after_read s)) said (by_read h s r) in
+      let is : row_at l b (after_read s) ++ more ≡ listing (drop (answers h) D) =
       record-listed (answers h) l b (after_read s) more (nth (answers h) D) k refl
       (subst (λ (a : Said). Hears a (nth (answers h) D) (after_read s)) said (heard h s r o))
-      (λ u. lists-on (read (gives l b) ∷ h) (after_read s) more run o u rest)
+      (λ u. lists-on (read (gives l b) ∷ h) (after_read s) more run o u rest) in
+      cc is
   lists-on h _ _ r o k (stopped s stop) = last-listed (answers h) (reading s).said (after_read s) (nth (answers h) D) k refl stop (heard h s r o)
 
 pub whole-listed : Listed
@@ -255,7 +257,7 @@ whole-listed X capacity policy start made text l =
 module _ (X : List ℕ) (wish : List Event → ℕ) (start : State) where
   one_more : (s : State) (a : Said) → (reading s).said ≡ a → Writes X (after_read s) → Writes X s
   one_more s (asks p m o) e t = record { text = t.text; is_listed = asked s p m o t.text e t.is_listed }
-  one_more s (gives l b) e t = record { text = row_at l b (after_read s) ++ t.text; is_listed = listed s l b t.text e t.is_listed }
+  one_more s (gives l b) e t = record { text = _; is_listed = listed s l b t.text e t.is_listed }
   one_more s ends e t = record { text = last_text (reading s).said; is_listed = stopped s (subst Stops (sym e) tt) }
   one_more s (refuses n vs) e t = record { text = last_text (reading s).said; is_listed = stopped s (subst Stops (sym e) tt) }
 
