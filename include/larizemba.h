@@ -1,6 +1,6 @@
 /* Larizemba's C edge: the growth of a window, the test of a setup, and the writers of FASTA (scope document 01, module 9).
 
-   Link target/staticlib/libedge.a, which `rt staticlib edge` writes: x86-64 Linux, no other library. Each function is proved to give the answer that is
+   Link target/staticlib/libedge.a, which `sh tools/staticlib` writes: x86-64 Linux, no other library. Each function is proved to give the answer that is
    said here for any arguments that keep the rules below. Nothing can test those rules from inside, so they are the caller's:
 
    - A pointer with a length beside it points to that many elements, aligned as their type asks, all readable, those of `out` writable too. With length 0

@@ -1,15 +1,17 @@
 """Bugs for a copy of the port's code, and programs built from a copy without proof: for the test of the comparison itself, and for tests/hostile.
 
-Nothing proves a copy with a bug, so it is built by `rt try`. That runs a program on the interpreter, then compiles it at -O0, at -O3 and with the
-compiler's assumptions checked, and runs what it compiled, but keeps none of it. So it is given a kit made of links to the one in use, with a
-linker that keeps what it links. The program gets no input there and must print what is due to none, so `rt try` fails only where the copy cannot be
-compiled. A second such kit compiles nothing, and so leaves the interpreter alone.
+Nothing proves a copy with a bug, so it is built by `rt try`. That runs a program on the interpreter, then compiles it at -O0 with checks of what the
+compiler may assume of proved code, and runs what it compiled, but keeps none of it. So it is given a kit made of links to the one in use, with a
+linker that keeps what it links. A second such kit has a compiler that takes -O3 for -O0. Copies and kits lie outside of the repository, where `rt ci`
+takes no file of Rattle but those of its crates.
 """
 import collections
 import os
+import re
 import shutil
 import subprocess
 import sys
+import tempfile
 
 # In `file`, the line `new` in place of the line `old`, which must stand there exactly once.
 Bug = collections.namedtuple("Bug", "name what file old new")
@@ -29,19 +31,21 @@ BUGS = (
 )
 
 LINKER = """#!/bin/sh
-'%(real)s/ld.lld' "$@" || exit
-for build in 0 1 2; do [ -e '%(kept)s'$build ] || exec cp program '%(kept)s'$build; done
+'%(real)s/ld.lld' "$@" && cp program '%(kept)s'
 """
-NO_LINKER = """#!/bin/sh
-exec cp '%(kept)s' program
-"""
-NO_COMPILER = """#!/bin/sh
-exec cp '%(real)s/../lib/crti.o' module.o
+COMPILER = """#!/bin/sh
+for word; do
+    shift
+    [ "$word" = -O0 ] && word=-O3
+    set -- "$@" "$word"
+done
+exec '%(real)s/clang' "$@"
 """
 
-# The three ways in which `rt try` compiles, in its order, each as it names it.
-BUILDS = ("at -O0", "at -O3", "with LLVM's assumptions checked")
+# The two ways in which a program of a copy is compiled.
+BUILDS = ("checked, at -O0", "checked, at -O3")
 NOTHING = {"drive": b"", "list": b"end\n"}  # what a program prints of no input
+STEPS = 1_000_000_000  # of the interpreter, after which it gives no answer
 
 
 class Builder:
@@ -50,65 +54,72 @@ class Builder:
     def __init__(self, root, folder):
         self.root, self.folder = root, folder
         self.kept = os.path.join(folder, "kept")
-        self.kit = self.linked("kit", {"ld.lld": LINKER})
-        self.bare = self.linked("bare", {"clang": NO_COMPILER, "ld.lld": NO_LINKER})
+        self.kits = dict(zip(BUILDS, (self.linked("kit0", {"ld.lld": LINKER}), self.linked("kit3", {"ld.lld": LINKER, "clang": COMPILER}))))
 
     def linked(self, name, tools):
-        """A kit made of links to the one in use, but for these tools."""
+        """A kit made of links to the one in use, but for these tools, and for the two files by whose place `rt` knows its kit."""
         rt = shutil.which("rt") or sys.exit("compare: no `rt` on the path")
-        home = os.environ.get("RATTLE_HOME") or os.path.dirname(os.path.dirname(os.path.realpath(rt)))
-        kit, inner = os.path.join(self.folder, name), ""
-        for part in ("on", os.uname().machine, "toolchain", "bin", None):
+        home = os.path.dirname(os.path.dirname(os.path.realpath(rt)))
+        kit = os.path.join(self.folder, name)
+        for inner, others in (("", ("bin", "toolchain")), ("bin", ("rt", "rtlib.py")), ("toolchain", ("bin",)), ("toolchain/bin", tools)):
             os.makedirs(os.path.join(kit, inner))
-            for other in os.listdir(os.path.join(home, inner)):
-                if other != part and not (part is None and other in tools):
-                    os.symlink(os.path.join(home, inner, other), os.path.join(kit, inner, other))
-            inner = os.path.join(inner, part) if part else inner
+            for part in os.listdir(os.path.join(home, inner)):
+                if part not in others:
+                    os.symlink(os.path.join(home, inner, part), os.path.join(kit, inner, part))
+        for part in ("rt", "rtlib.py"):
+            shutil.copy(os.path.join(home, "bin", part), os.path.join(kit, "bin", part))
         for tool, text in tools.items():
-            with open(os.path.join(kit, inner, tool), "w") as file:
-                file.write(text % {"real": os.path.join(home, inner), "kept": self.kept})
-            os.chmod(os.path.join(kit, inner, tool), 0o755)
-        return kit
+            path = os.path.join(kit, "toolchain", "bin", tool)
+            with open(path, "w") as file:
+                file.write(text % {"real": os.path.join(home, "toolchain", "bin"), "kept": self.kept})
+            os.chmod(path, 0o755)
+        return os.path.join(kit, "bin", "rt")
 
     def build(self, bug):
         """The path of `drive` with a bug, or with none, at -O0."""
-        return self.builds(self.copy(bug), "drive")[BUILDS[0]]
+        return self.builds(self.copy(bug), "drive", BUILDS[:1])[BUILDS[0]]
 
     def copy(self, bug):
         """The folder of a copy of the code with a bug, or with none."""
         copy = os.path.join(self.folder, bug.name if bug else "control")
         shutil.copytree(os.path.join(self.root, "crates"), os.path.join(copy, "crates"),
-                        ignore=shutil.ignore_patterns("proofs", "must-fail", "more-edits", "stdin", "stdout"))
+                        ignore=shutil.ignore_patterns("out", "proofs", "must-fail", "more-edits", "stdin", "stdout"))
         shutil.copy(os.path.join(self.root, "crates.txt"), copy)
         if bug:
             edit(os.path.join(copy, bug.file), bug)
         return copy
 
-    def builds(self, copy, crate):
-        """The paths of a program of a copy, compiled in each of the three ways. The last one stays for the bare kit, which links nothing."""
-        said = self.tried(copy, crate, self.kit, b"", NOTHING[crate])
+    def builds(self, copy, crate, names=BUILDS):
+        """The paths of a program of a copy, compiled in these ways."""
         programs = {}
-        for number, name in enumerate(BUILDS):
-            if "ok: the native program %s ended and wrote what is expected\n" % name not in said or not os.path.exists(self.kept + str(number)):
+        for name in names:
+            out, said = self.tried(self.kits[name], copy, crate)
+            if out != NOTHING[crate] or "\nchecked: ended status=0\n" not in "\n" + said or not os.path.exists(self.kept):
                 sys.exit("compare: %s is not built (%s):\n%s" % (crate, copy, said))
-            programs[name] = os.path.join(copy, "%s.%d" % (crate, number))
-            os.rename(self.kept + str(number), programs[name])
-            shutil.copy(programs[name], self.kept)
+            programs[name] = os.path.join(copy, "%s.%d" % (crate, BUILDS.index(name)))
+            os.rename(self.kept, programs[name])
         return programs
 
-    def interpreted(self, copy, crate, data, want):
-        """None if the interpreter prints what is wanted of an input, else what is said of it."""
-        said = self.tried(copy, crate, self.bare, data, want)
-        return None if said.startswith("ok: the interpreter ended and wrote what is expected\n") else said[:300]
+    def interpreted(self, copy, crate, runs):
+        """Of each run of a program of a copy, an input and what is to be printed of it: None if the interpreter prints that, else what is said of it."""
+        with tempfile.TemporaryDirectory(dir=self.folder) as folder:
+            for number, texts in enumerate(runs):
+                for end, text in zip(("", ".stdout"), texts):
+                    with open(os.path.join(folder, "%06d%s" % (number, end)), "wb") as file:
+                        file.write(text)
+            _, said = self.tried("rt", copy, crate, "--steps", str(STEPS), "--cases", folder)
+        ends = {}
+        for lines in re.findall(r"(?m)((?:^(?!case=).*\n)*^case=.*)", said):
+            ends[int(re.search(r"case=(\d+)", lines).group(1))] = lines
+        return [None if re.match(r"case=\d+ run=ended status=0 runners=2 output=expected ", ends.get(number, "")) else ends.get(number, said)[:300]
+                for number in range(len(runs))]
 
     @staticmethod
-    def tried(copy, crate, kit, data, want):
-        for name, text in (("stdin", data), ("stdout", want)):
-            with open(os.path.join(copy, "crates", crate, name), "wb") as file:
-                file.write(text)
-        done = subprocess.run(["rt", "try", crate], cwd=copy, env={**os.environ, "RATTLE_HOME": kit}, stdin=subprocess.DEVNULL,
-                              stdout=subprocess.PIPE, stderr=subprocess.STDOUT)
-        return done.stdout.decode(errors="replace")
+    def tried(rt, copy, crate, *words):
+        """What a program of a copy prints of no input under `rt try`, and what that says."""
+        done = subprocess.run([rt, "try", *words], cwd=os.path.join(copy, "crates", crate), stdin=subprocess.DEVNULL,
+                              stdout=subprocess.PIPE, stderr=subprocess.PIPE)
+        return done.stdout, done.stderr.decode(errors="replace")
 
 
 def edit(path, bug):

@@ -60,7 +60,7 @@ def shown(run):
             head, *lines = (text(data(looks[look])) for look in wanted)
             out.append("shows %d %d %s %s" % (line, byte, head, listed(lines, True)))
         else:
-            out.append("the-end" if word == "end" else "refusal %d %s" % (rest[0], listed(rest[1], True)))
+            out.append("the_end" if word == "end" else "refusal %d %s" % (rest[0], listed(rest[1], True)))
     return listed(out)
 
 
@@ -164,13 +164,13 @@ def grows(vector):
 # How many vectors of each kind are taken for a part.
 MOST = {"reads": 5, "resumes": 6, "names": 3, "writers": 7, "fills": 10, "growths": 2}
 # What each part holds, and the definitions that compute its answers; those of the bench list's questions are all opened together.
-LISTED = "due meaning largest chain unchangedText copyOf listing headOf seqLines"
+LISTED = "due meaning largest chain unchanged_text copy_of listing head_of seq_lines"
 PARTS = {
     "reads": ("what single reads give to the end or to a refusal, each record with line, byte, head and lines", LISTED),
-    "resumes": ("the same behind a seek to a position that the reader gave", "due recordsFrom largest headOf seqLines"),
-    "names": ("id, description and joined sequence of each record", "naming meaning headOf seqOf idOf descOf"),
-    "writers": ("what `write`, `write_wrap` and `write_unchanged` make of each record", LISTED + " wrapSeqIterText"),
-    "fills": ("what a free writer answers, and the output behind it, which was full of `#`", "writing filled wrapped wrapSeqText"),
+    "resumes": ("the same behind a seek to a position that the reader gave", "due records_from largest head_of seq_lines"),
+    "names": ("id, description and joined sequence of each record", "naming meaning head_of seq_of id_of desc_of"),
+    "writers": ("what `write`, `write_wrap` and `write_unchanged` make of each record", LISTED + " wrap_seq_iter_text"),
+    "fills": ("what a free writer answers, and the output behind it, which was full of `#`", "writing filled wrapped wrap_seq_text"),
     "growths": ("what the policies grow sizes to", "grown"),
 }
 
@@ -196,36 +196,35 @@ def chosen(vectors, growth):
 
 HEAD = """-- Made by `python3 tests/vectors/make`, not to be edited by hand. Vectors of tests/vectors/answers.txt and growth.txt as questions to the definitions:
 -- every reply is what the Rust answered there, and the definitions compute the same. Assumes nothing.
-use mathlib.Core.List.{List, [], _∷_, map}
-use mathlib.Core.Option.{none, some}
-use mathlib.Core.Path.{_≡_, refl}
-use Rattle·bench.specs.Table.{reads, rewrites, shows, the-end, refusal, hears, texts}
-use Rattle·growth.specs.declared.Policy.the-variants.{StdPolicy, DoubleUntil, DoubleUntilLimited}
-use Rattle·growth.specs.Growth.{grown}
-use Rattle·growth.specs.Chain.{largest, chain}
-use Rattle·meaning.specs.Ascii.{ascii}
-use Rattle·meaning.specs.Input.{recordsFrom, meaning}
-use Rattle·meaning.specs.Parts.{headOf, seqLines, seqOf, idOf, descOf}
-use Rattle·meaning.specs.Due.{due}
-use Rattle·write.specs.Text.{wrapSeqText, wrapSeqIterText, unchangedText, copyOf}
-use Rattle·write.specs.Listing.{listing}
-use Rattle·write.specs.Output.{wrote, refuses, filled, wrapped}
-use Rattle·vectors·specs.specs.Asked.{Vector, vector, asked, naming, writing, listed, resumes, names, writes, wraps, fills, grows, told, are, named, leaves, sizes}
-use Rattle·vectors·specs.specs.Asked.{write-head, write-id-desc, write-seq, write-wrap-seq, write-to, write-parts, write-wrap}
+use Rattle.std.specs.Prelude.{List, [], ◌∷◌, map, ◌≡◌, refl}
+use Rattle.std.proofs.Math.Option.{none, some}
+use Rattle.bench.specs.Table.{reads, rewrites, shows, the_end, refusal, hears, texts}
+use Rattle.growth.specs.declared.Policy.TheVariants.{StdPolicy, DoubleUntil, DoubleUntilLimited}
+use Rattle.growth.specs.Growth.{grown}
+use Rattle.growth.specs.Chain.{largest, chain}
+use Rattle.meaning.specs.Ascii.{ascii}
+use Rattle.meaning.specs.Input.{records_from, meaning}
+use Rattle.meaning.specs.Parts.{head_of, seq_lines, seq_of, id_of, desc_of}
+use Rattle.meaning.specs.Due.{due}
+use Rattle.write.specs.Text.{wrap_seq_text, wrap_seq_iter_text, unchanged_text, copy_of}
+use Rattle.write.specs.Listing.{listing}
+use Rattle.write.specs.Output.{wrote, refuses, filled, wrapped}
+use Rattle.vectors.specs.Asked.{Vector, vector, asked, naming, writing, listed, resumes, names, writes, wraps, fills, grows, told, are, named, leaves, sizes}
+use Rattle.vectors.specs.Asked.{write-head, write-id-desc, write-seq, write-wrap-seq, write-to, write-parts, write-wrap}
 """
 
 
 def text_of(vectors, growth):
     out = [HEAD]
     for part, found in chosen(vectors, growth).items():
-        table = "the-" + part
+        table = "the_" + part
         what, opened = PARTS[part]
         out += ["-- " + what, "abbrev pub %s : List Vector" % table, "unfolding ascii", "%s =" % table]
         for name, pairs in found:
             out.append("    -- " + name)
             for question, reply in pairs:
                 out += broken("vector (%s)" % question) + broken("(%s) ∷" % reply)
-        out += ["    []", "", "pub %s-right : map (λ (v : Vector). asked (v .query)) %s ≡ map (λ (v : Vector). v .said) %s" % (part, table, table),
+        out += ["    []", "", "pub %s-right : map (λ (v : Vector). asked v.query) %s ≡ map (λ (v : Vector). v.said) %s" % (part, table, table),
                 "unfolding asked ascii " + opened, "%s-right = refl" % part, ""]
     return "\n".join(out).rstrip("\n") + "\n"
 

@@ -30,7 +30,7 @@ pub data Reply : Type 0 where
   sizes : List ℕ → Reply
   texts : List (List ℕ) → Reply
 
-abbrev pub shown : Said Rec → Shown
+unfoldable pub shown : Said Rec → Shown
 unfolding head_of seq_lines
 shown (gives r) = shows r.line r.byte (head_of r) (seq_lines r)
 shown ends = the_end
@@ -41,8 +41,8 @@ abbrev pub recs : Meaning → List Rec
 recs (records rs) = rs
 recs (refused l x) = []
 
-abbrev pub asked : Question → Reply
-unfolding due meaning largest chain unchanged_text copy_of listing
+unfoldable pub asked : Question → Reply
+unfolding shown due meaning largest chain unchanged_text copy_of listing
 asked (reads policy window start slots input) = hears (map shown (due (largest policy window start) slots (meaning input)))
 asked (grows policy window start) = sizes (chain policy window start)
 asked (rewrites input) = texts (map (λ (r : Rec). unchanged_text (copy_of r)) (recs (meaning input)))
@@ -77,10 +77,10 @@ table =
     -- `>id\nACGT` and `>id\nACGT\n`: one line `ACGT`
     read (ascii ">id\nACGT") (shows 1 0 (ascii "id") (ascii "ACGT" ∷ []) ∷ the_end ∷ []) ∷
     read (ascii ">id\nACGT\n") (shows 1 0 (ascii "id") (ascii "ACGT" ∷ []) ∷ the_end ∷ []) ∷
-    -- `>id\nAC\n\n`: lines `Ac` and empty; `write_unchanged` gives `>id\nAC\n`
+    -- `>id\nAC\n\n`: lines `AC` and empty; `write_unchanged` gives `>id\nAC\n`
     read (ascii ">id\nAC\n\n") (shows 1 0 (ascii "id") (ascii "AC" ∷ [] ∷ []) ∷ the_end ∷ []) ∷
     record { question = rewrites (ascii ">id\nAC\n\n"); reply = texts (ascii ">id\nAC\n" ∷ []) } ∷
-    -- line `Ac\r\r`: shown as `Ac\r`
+    -- line `AC\r\r`: shown as `AC\r`
     read (ascii ">id\nAC\r\r\n") (shows 1 0 (ascii "id") (ascii "AC\r" ∷ []) ∷ the_end ∷ []) ∷
     -- `>a>b\n>c`: heads `a>b`, `c`
     read (ascii ">a>b\n>c") (shows 1 0 (ascii "a>b") [] ∷ shows 2 5 (ascii "c") [] ∷ the_end ∷ []) ∷
@@ -96,5 +96,5 @@ table =
     []
 
 pub all_right : map (λ (c : Case). asked c.question) table ≡ map (λ (c : Case). c.reply) table
-unfolding ascii due meaning largest chain unchanged_text copy_of listing head_of seq_lines
+unfolding asked shown ascii due meaning largest chain unchanged_text copy_of listing head_of seq_lines
 all_right = refl

@@ -1,1 +1,2 @@
 // The bench list's P cases are a table in specs/ and have no code.
+#![tactic(auto)]

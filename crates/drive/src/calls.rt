@@ -1,6 +1,6 @@
 // The calls of a script: each takes the run by value, answers one line, and hands the run back.
 use crate::free::write_free;
-use crate::out::{put_number, put_one, put_part, put_text, put_two};
+use crate::out::{Output, put_number, put_one, put_part, put_text, put_two};
 use crate::record::write_record;
 use crate::script::{byte_at, front, front_ends, number_at};
 use crate::sets::Last;
@@ -27,7 +27,7 @@ pub(crate) fn call(
     window: &mut [u8],
     ends: &mut [usize],
     room: &mut [u8],
-    out: &mut [u8; 65536],
+    out: &mut Output,
 ) -> Run {
     match code {
         1 => read(run, window, ends, out),
@@ -60,7 +60,7 @@ pub(crate) fn call(
 }
 
 // A read.
-fn read(run: Run, window: &mut [u8], ends: &mut [usize], out: &mut [u8; 65536]) -> Run {
+fn read(run: Run, window: &mut [u8], ends: &mut [usize], out: &mut Output) -> Run {
     let before = run.reader;
     let next = before.next(window, ends);
     let reader = next.reader;
@@ -85,7 +85,7 @@ fn last_ask(answer: Answer, before: Ask) -> Ask {
 }
 
 // What a read answers; a record has `count` ends.
-fn put_answer(answer: Answer, count: usize, out: &mut [u8; 65536], from: usize) -> usize {
+fn put_answer(answer: Answer, count: usize, out: &mut Output, from: usize) -> usize {
     match answer {
         Answer::Ask(ask) => put_ask(ask, out, from),
         Answer::Record(place) => put_record(place, count, out, from),
@@ -98,7 +98,7 @@ fn put_answer(answer: Answer, count: usize, out: &mut [u8; 65536], from: usize) 
     }
 }
 
-pub(crate) fn put_ask(ask: Ask, out: &mut [u8; 65536], from: usize) -> usize {
+pub(crate) fn put_ask(ask: Ask, out: &mut Output, from: usize) -> usize {
     let place = ask.place;
     let offset = ask.offset;
     let at = put_text(out, from, b"ask");
@@ -106,7 +106,7 @@ pub(crate) fn put_ask(ask: Ask, out: &mut [u8; 65536], from: usize) -> usize {
     put_two(out, behind, b"", ask.room as u64, offset.0)
 }
 
-fn put_record(place: Position, count: usize, out: &mut [u8; 65536], from: usize) -> usize {
+fn put_record(place: Position, count: usize, out: &mut Output, from: usize) -> usize {
     let byte = place.byte;
     let at = put_text(out, from, b"record");
     let behind = put_number(out, at, place.line);
@@ -114,13 +114,13 @@ fn put_record(place: Position, count: usize, out: &mut [u8; 65536], from: usize)
     put_two(out, behind, b"", byte.0, lines as u64)
 }
 
-pub(crate) fn put_place(place: Position, word: &[u8], out: &mut [u8; 65536], from: usize) -> usize {
+pub(crate) fn put_place(place: Position, word: &[u8], out: &mut Output, from: usize) -> usize {
     let byte = place.byte;
     put_two(out, from, word, place.line, byte.0)
 }
 
 // A report of `count` bytes, which are put into the window first.
-fn report(run: Run, count: u64, input: &[u8], window: &mut [u8], out: &mut [u8; 65536]) -> Run {
+fn report(run: Run, count: u64, input: &[u8], window: &mut [u8], out: &mut Output) -> Run {
     let ask = run.ask;
     bring(ask, count as usize, input, window);
     let before = run.reader;
@@ -164,7 +164,7 @@ fn bring(ask: Ask, count: usize, input: &[u8], window: &mut [u8]) {
     }
 }
 
-fn seek(run: Run, line: u64, byte: u64, out: &mut [u8; 65536]) -> Run {
+fn seek(run: Run, line: u64, byte: u64, out: &mut Output) -> Run {
     let to = Position {
         line,
         byte: InputOffset(byte),
@@ -189,7 +189,7 @@ fn seek(run: Run, line: u64, byte: u64, out: &mut [u8; 65536]) -> Run {
     }
 }
 
-fn position(run: Run, out: &mut [u8; 65536]) -> Run {
+fn position(run: Run, out: &mut Output) -> Run {
     let reader = run.reader;
     let at = match reader.position() {
         Where::At(place) => put_place(place, b"at", out, run.at),
@@ -199,7 +199,7 @@ fn position(run: Run, out: &mut [u8; 65536]) -> Run {
     Run { at, ..run }
 }
 
-fn capacity(run: Run, out: &mut [u8; 65536]) -> Run {
+fn capacity(run: Run, out: &mut Output) -> Run {
     let reader = run.reader;
     let fill = reader.fill;
     let at = put_one(out, run.at, b"capacity", fill.capacity as u64);
@@ -207,7 +207,7 @@ fn capacity(run: Run, out: &mut [u8; 65536]) -> Run {
 }
 
 // The size that the policy and the window of the setup grow a size to.
-fn grow(run: Run, size: u64, out: &mut [u8; 65536]) -> Run {
+fn grow(run: Run, size: u64, out: &mut Output) -> Run {
     let reader = run.reader;
     let fill = reader.fill;
     let policy = fill.policy;
@@ -225,7 +225,7 @@ fn show(
     window: &[u8],
     ends: &[usize],
     scratch: &mut [u8],
-    out: &mut [u8; 65536],
+    out: &mut Output,
 ) -> Run {
     let reader = run.reader;
     let current = reader.current(window.len(), ends.len());
@@ -240,7 +240,7 @@ fn put_current(
     window: &[u8],
     ends: &[usize],
     scratch: &mut [u8],
-    out: &mut [u8; 65536],
+    out: &mut Output,
     from: usize,
 ) -> usize {
     let Current::At {
@@ -263,7 +263,7 @@ fn put_current(
     )
 }
 
-fn put_no_record(current: Current, out: &mut [u8; 65536], from: usize) -> usize {
+fn put_no_record(current: Current, out: &mut Output, from: usize) -> usize {
     if let Current::None = current {
         return put_text(out, from, b"refused 7\n");
     }
@@ -277,7 +277,7 @@ fn put_view(
     start: usize,
     ends: &[usize],
     scratch: &mut [u8],
-    out: &mut [u8; 65536],
+    out: &mut Output,
     from: usize,
 ) -> usize {
     let line = number_at(operands, 1, 8) as usize;
@@ -299,7 +299,7 @@ fn put_view(
     }
 }
 
-pub(crate) fn put_shown(view: View, bytes: &[u8], out: &mut [u8; 65536], from: usize) -> usize {
+pub(crate) fn put_shown(view: View, bytes: &[u8], out: &mut Output, from: usize) -> usize {
     match view {
         View::Part { from: _, to: _ } => put_part(out, from, b"part", view::shown(view, bytes)),
         View::None => put_text(out, from, b"none\n"),
@@ -316,7 +316,7 @@ fn put_full(
     start: usize,
     ends: &[usize],
     room: &mut [u8],
-    out: &mut [u8; 65536],
+    out: &mut Output,
     from: usize,
 ) -> usize {
     if room.len() < length {
@@ -332,7 +332,7 @@ pub(crate) fn put_picked<'a>(
     full: Full,
     bytes: &'a [u8],
     scratch: &'a [u8],
-    out: &mut [u8; 65536],
+    out: &mut Output,
     from: usize,
 ) -> usize {
     match full {
@@ -356,7 +356,7 @@ fn write_current(
     window: &[u8],
     ends: &[usize],
     room: &mut [u8],
-    out: &mut [u8; 65536],
+    out: &mut Output,
 ) -> Run {
     let reader = run.reader;
     let at = write_record(reader, operands, window, ends, room, out, run.at);
@@ -364,7 +364,7 @@ fn write_current(
 }
 
 // Alters a number of the reader.
-fn alter(run: Run, field: u8, value: u64, out: &mut [u8; 65536]) -> Run {
+fn alter(run: Run, field: u8, value: u64, out: &mut Output) -> Run {
     let at = put_text(out, run.at, b"altered\n");
     let before = run.reader;
     let mut fill = before.fill;
@@ -390,7 +390,7 @@ fn alter(run: Run, field: u8, value: u64, out: &mut [u8; 65536]) -> Run {
 }
 
 // Alters a slot of the table, if it has it.
-fn alter_slot(run: Run, slot: u64, value: u64, ends: &mut [usize], out: &mut [u8; 65536]) -> Run {
+fn alter_slot(run: Run, slot: u64, value: u64, ends: &mut [usize], out: &mut Output) -> Run {
     set_slot(ends, slot as usize, value as usize);
     let at = put_text(out, run.at, b"altered\n");
     Run { at, ..run }

@@ -1,5 +1,5 @@
 // The free writers.
-use crate::out::{put, put_hex, put_one, put_text};
+use crate::out::{Output, put, put_hex, put_one, put_text};
 use crate::script::{behind, byte_at, front, number_at};
 use write::Wrote;
 
@@ -7,7 +7,7 @@ use write::Wrote;
 pub(crate) fn write_free(
     operands: &[u8],
     space: &mut [u8],
-    out: &mut [u8; 65536],
+    out: &mut Output,
     from: usize,
 ) -> usize {
     let length = number_at(operands, 21, 4) as usize;
@@ -23,7 +23,7 @@ pub(crate) fn write_free(
     }
 }
 
-fn put_wrote(n: usize, room: &[u8], out: &mut [u8; 65536], from: usize) -> usize {
+fn put_wrote(n: usize, room: &[u8], out: &mut Output, from: usize) -> usize {
     let at = put_text(out, from, b"wrote");
     let middle = put_hex(out, at, front(room, n));
     let end = put_hex(out, middle, behind(room, n));

@@ -1,4 +1,6 @@
 // Runs scripted readers: reads scripts on standard input, and prints a line for each answer. docs/DRIVE.md lays down what a script is.
+#![tactic(auto)]
+
 mod calls;
 mod free;
 mod out;
@@ -9,11 +11,11 @@ mod sets;
 use calls::{Run, call};
 use free::fill;
 use growth::Policy;
-use libc::STDIN_FILENO;
-use out::{flush, put_text};
+use out::{Output, flush, put_text};
 use reader::{Reader, Setup};
 use script::{behind, byte_at, call_end, front, number_at, plus};
 use sets::{call_set, is_about_sets, no_set};
+use std::io::{Read, Stdin};
 use window::{Ask, InputOffset, WindowOffset};
 
 // How far the scripts are read, how much of the output's buffer is taken, and whether all was good so far.
@@ -24,28 +26,44 @@ struct Progress {
     good: bool,
 }
 
-fn main() {
+fn main(rt: HostRuntime) {
     let mut bytes = [0u8; 1048577];
-    let n = read_all(&mut bytes);
-    let mut out = io::large_buffer();
+    let n = read_all(rt.stdin(), &mut bytes);
+    let mut out = Output {
+        buffer: [0u8; 65536],
+        stdout: rt.stdout(),
+    };
     let at = run_all(&bytes, n, &mut out);
     flush(&out, at);
 }
 
 // All scripts of a run have at most 1 MiB; one byte more shows that there is more.
-fn read_all(bytes: &mut [u8; 1048577]) -> usize {
-    io::read_full(STDIN_FILENO, bytes)
+fn read_all(stdin: Stdin, bytes: &mut [u8; 1048577]) -> usize {
+    read_full(stdin, bytes)
+}
+
+// Reads until the bytes are full, the input ends or a read fails; answers how many bytes are read.
+fn read_full(stdin: Stdin, bytes: &mut [u8]) -> usize {
+    let mut from = stdin;
+    let mut done = 0;
+    while done < bytes.len() {
+        match from.read(&mut bytes[done..]) {
+            Ok(n) if 0 < n => done += n,
+            _ => break,
+        }
+    }
+    done
 }
 
 // The scripts in the first n bytes; answers how much of the output's buffer is taken.
-fn run_all(bytes: &[u8; 1048577], n: usize, out: &mut [u8; 65536]) -> usize {
+fn run_all(bytes: &[u8; 1048577], n: usize, out: &mut Output) -> usize {
     if 1048576 < n {
         return put_text(out, 0, b"bad script\n");
     }
-    let mut window = io::large_buffer();
+    let mut window = [0u8; 65536];
     let mut ends = [0usize; 4096];
-    let mut room = io::large_buffer();
-    let mut held = io::large_buffer();
+    let mut room = [0u8; 65536];
+    let mut held = [0u8; 65536];
     let mut marks = [0usize; 2048];
     let mut lasts = [0usize; 4096];
     let scripts = front(bytes, n);
@@ -70,7 +88,7 @@ fn run_each(
     held: &mut [u8; 65536],
     marks: &mut [usize; 2048],
     lasts: &mut [usize; 4096],
-    out: &mut [u8; 65536],
+    out: &mut Output,
 ) -> usize {
     let mut at = 0;
     let mut place = 0;
@@ -102,7 +120,7 @@ fn run_one(
     held: &mut [u8; 65536],
     marks: &mut [usize; 2048],
     lasts: &mut [usize; 4096],
-    out: &mut [u8; 65536],
+    out: &mut Output,
     at: usize,
 ) -> Progress {
     let script = behind(bytes, place);
@@ -174,7 +192,7 @@ fn run_script(
     held: &mut [u8; 65536],
     marks: &mut [usize; 2048],
     lasts: &mut [usize; 4096],
-    out: &mut [u8; 65536],
+    out: &mut Output,
     at: usize,
 ) -> Progress {
     let script = behind(bytes, place);
@@ -223,7 +241,7 @@ fn run_calls(
     held: &mut [u8; 65536],
     marks: &mut [usize; 2048],
     lasts: &mut [usize; 4096],
-    out: &mut [u8; 65536],
+    out: &mut Output,
 ) -> Progress {
     let mut run = first;
     let mut place = plus(from, 4);
@@ -264,7 +282,7 @@ fn call_at(
     held: &mut [u8; 65536],
     marks: &mut [usize; 2048],
     lasts: &mut [usize; 4096],
-    out: &mut [u8; 65536],
+    out: &mut Output,
 ) -> Run {
     let operands = behind(bytes, plus(place, 1));
     let code = byte_at(bytes, place, 0);
@@ -277,7 +295,7 @@ fn call_at(
 }
 
 // The calls of a script whose setup was refused are passed over.
-fn pass_calls(bytes: &[u8], from: usize, out: &mut [u8; 65536], at: usize) -> Progress {
+fn pass_calls(bytes: &[u8], from: usize, out: &mut Output, at: usize) -> Progress {
     let mut place = plus(from, 4);
     let mut left = number_at(bytes, from, 4);
     while left > 0 {
@@ -291,7 +309,7 @@ fn pass_calls(bytes: &[u8], from: usize, out: &mut [u8; 65536], at: usize) -> Pr
     done(place, out, at)
 }
 
-fn done(place: usize, out: &mut [u8; 65536], at: usize) -> Progress {
+fn done(place: usize, out: &mut Output, at: usize) -> Progress {
     let told = put_text(out, at, b"done\n");
     Progress {
         place,

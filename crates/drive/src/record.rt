@@ -1,5 +1,5 @@
 // The writers of the current record.
-use crate::out::{put_one, put_part, put_text};
+use crate::out::{Output, put_one, put_part, put_text};
 use crate::script::{byte_at, front, number_at};
 use reader::Reader;
 use rewrite::Rewrote;
@@ -11,7 +11,7 @@ pub(crate) fn write_record(
     window: &[u8],
     ends: &[usize],
     space: &mut [u8],
-    out: &mut [u8; 65536],
+    out: &mut Output,
     from: usize,
 ) -> usize {
     let length = number_at(operands, 9, 4) as usize;
@@ -24,12 +24,7 @@ pub(crate) fn write_record(
 }
 
 // What a writer answers, of which the room holds the text.
-pub(crate) fn put_rewrote(
-    wrote: Rewrote,
-    room: &[u8],
-    out: &mut [u8; 65536],
-    from: usize,
-) -> usize {
+pub(crate) fn put_rewrote(wrote: Rewrote, room: &[u8], out: &mut Output, from: usize) -> usize {
     match wrote {
         Rewrote::Done(n) => put_part(out, from, b"wrote", front(room, n)),
         Rewrote::NoRecord => put_text(out, from, b"refused 7\n"),

@@ -1,7 +1,7 @@
 // The calls about record sets: a read of a set, and views, writers and positions of the last set's records. The set's arrays stand beside the
 // window; each read lends the fronts of them that it names, and the last set goes by the lengths of those fronts.
 use crate::calls::{Run, put_ask, put_picked, put_place, put_shown};
-use crate::out::{put_text, put_two};
+use crate::out::{Output, put_text, put_two};
 use crate::record::put_rewrote;
 use crate::script::{behind, byte_at, front, front_ends, number_at, plus};
 use rewrite::Rewrote;
@@ -53,7 +53,7 @@ pub(crate) fn call_set(
     marks: &mut [usize; 2048],
     ends: &mut [usize; 4096],
     room: &mut [u8],
-    out: &mut [u8; 65536],
+    out: &mut Output,
 ) -> Run {
     match code {
         5 => read_set(run, operands, window, table, bytes, marks, ends, out),
@@ -72,7 +72,7 @@ fn read_set(
     bytes: &mut [u8],
     marks: &mut [usize],
     ends: &mut [usize],
-    out: &mut [u8; 65536],
+    out: &mut Output,
 ) -> Run {
     let room = number_at(operands, 0, 4) as usize;
     let records = number_at(operands, 4, 4) as usize;
@@ -101,7 +101,7 @@ fn fill_set(
     bytes: &mut [u8],
     marks: &mut [usize],
     ends: &mut [usize],
-    out: &mut [u8; 65536],
+    out: &mut Output,
 ) -> Run {
     let before = run.last;
     let given = handed(before, bytes.len(), marks.len());
@@ -153,7 +153,7 @@ fn set_ask(answer: Filled, before: Ask) -> Ask {
 }
 
 // What a read of a set answers.
-fn put_filled(answer: Filled, out: &mut [u8; 65536], from: usize) -> usize {
+fn put_filled(answer: Filled, out: &mut Output, from: usize) -> usize {
     match answer {
         Filled::Ask(ask) => put_ask(ask, out, from),
         Filled::Records { count, filled } => put_two(
@@ -174,7 +174,7 @@ fn put_filled(answer: Filled, out: &mut [u8; 65536], from: usize) -> usize {
 }
 
 // The position of the last set's record i.
-fn place_held(run: Run, i: usize, marks: &[usize], out: &mut [u8; 65536]) -> Run {
+fn place_held(run: Run, i: usize, marks: &[usize], out: &mut Output) -> Run {
     let last = run.last;
     let set = last.set;
     let pairs = front_ends(marks, last.marks);
@@ -194,7 +194,7 @@ fn show_held(
     marks: &[usize],
     ends: &[usize],
     scratch: &mut [u8],
-    out: &mut [u8; 65536],
+    out: &mut Output,
 ) -> Run {
     let last = run.last;
     let at = put_set_view(
@@ -218,7 +218,7 @@ fn put_set_view(
     marks: &[usize],
     ends: &[usize],
     scratch: &mut [u8],
-    out: &mut [u8; 65536],
+    out: &mut Output,
     from: usize,
 ) -> usize {
     let i = number_at(operands, 0, 4) as usize;
@@ -246,7 +246,7 @@ fn put_set_full(
     marks: &[usize],
     ends: &[usize],
     room: &mut [u8],
-    out: &mut [u8; 65536],
+    out: &mut Output,
     from: usize,
 ) -> usize {
     let i = number_at(operands, 0, 4) as usize;
@@ -267,7 +267,7 @@ fn write_held(
     marks: &[usize],
     ends: &[usize],
     room: &mut [u8],
-    out: &mut [u8; 65536],
+    out: &mut Output,
 ) -> Run {
     let last = run.last;
     let at = put_set_written(
@@ -291,7 +291,7 @@ fn put_set_written(
     marks: &[usize],
     ends: &[usize],
     space: &mut [u8],
-    out: &mut [u8; 65536],
+    out: &mut Output,
     from: usize,
 ) -> usize {
     let length = number_at(operands, 13, 4) as usize;

@@ -1,4 +1,6 @@
 // Growth of the window (01, module 1; policy.rs): which larger capacity a policy names, within a window of a given length.
+#![tactic(auto)]
+
 ghost use Rattle.std.specs.Prelude.{◌≡◌, ◌+◌};
 ghost use Rattle.growth.specs.Growth.{GrowTo, doubled};
 ghost use Rattle.growth.specs.declared.Policy.TheVariants.{DoubleUntilLimited};

@@ -1,6 +1,7 @@
 // Serving an ask: one read of standard input into the room that is asked for, and the report.
-use libc::{EINTR, STDERR_FILENO, STDIN_FILENO};
 use reader::{Reader, Reported};
+use std::io;
+use std::io::{ErrorKind, Read};
 use window::Ask;
 
 // What came of an ask: the reader goes on, or it cannot, and the reason was told.
@@ -10,49 +11,55 @@ pub(crate) enum Brought {
     Failed,
 }
 
-// What came of a read.
-#[derive(Clone, Copy)]
-enum Got {
-    Bytes(usize),
-    Failed,
-}
-
-pub(crate) fn bring(reader: Reader, ask: Ask, window: &mut [u8]) -> Brought {
+pub(crate) fn bring(
+    rt: &impl Eprint,
+    input: &mut impl Read,
+    reader: Reader,
+    ask: Ask,
+    window: &mut [u8],
+) -> Brought {
     let place = ask.place;
-    let Got::Bytes(count) = read_into(window, place.0, ask.room) else {
-        os::fail(b"list: read");
-        return Brought::Failed;
+    let count = match read_into(input, window, place.0, ask.room) {
+        Ok(count) => count,
+        Err(e) => {
+            let _ = eprintln!(rt; "list: read: {e}");
+            return Brought::Failed;
+        }
     };
     let Reported::Taken(on) = reader.report(count) else {
-        io::write_all(STDERR_FILENO, b"list: more than 2^62 bytes\n");
+        let _ = eprintln!(rt; "list: more than 2^62 bytes");
         return Brought::Failed;
     };
     Brought::On(on)
 }
 
 // One read into a part of the window.
-fn read_into(window: &mut [u8], place: usize, room: usize) -> Got {
+fn read_into(
+    input: &mut impl Read,
+    window: &mut [u8],
+    place: usize,
+    room: usize,
+) -> io::Result<usize> {
     if window.len() < place {
-        return Got::Failed;
+        return Err(io::Error::from(ErrorKind::InvalidInput));
     }
     if window.len() - place < room {
-        return Got::Failed;
+        return Err(io::Error::from(ErrorKind::InvalidInput));
     }
-    read(&mut window[place..place + room])
+    read(input, &mut window[place..place + room])
 }
 
 // One read, tried again when a signal interrupts it.
-fn read(part: &mut [u8]) -> Got {
-    let mut turns = u64::MAX;
-    while turns > 0 {
-        turns -= 1;
-        let got = libc::read(STDIN_FILENO, part);
-        if got >= 0 {
-            return Got::Bytes(io::count(got, part));
-        }
-        if os::errno() != EINTR {
-            return Got::Failed;
+fn read(input: &mut impl Read, part: &mut [u8]) -> io::Result<usize> {
+    for _ in 0..u64::MAX {
+        match input.read(part) {
+            Ok(count) => return Ok(count),
+            Err(e) => {
+                if e.kind() != ErrorKind::Interrupted {
+                    return Err(e);
+                }
+            }
         }
     }
-    Got::Failed
+    Err(io::Error::from(ErrorKind::Interrupted))
 }

@@ -1,13 +1,8 @@
 -- What each call beside reads comes to, by what it tests. Assumes nothing.
 use Prim.Native.Nat.{ℕ, ◌+◌, ◌≤◌}
-use native.Mathlib.Omega.{arith}
 use mathlib.Core.Bool.{Bool, true, false, ◌||◌, false≢true}
-use mathlib.Core.List.{[], ◌∷◌}
-use mathlib.Core.Logic.{⊎_elim}
 use mathlib.Core.Option.{none, some}
 use mathlib.Core.Path.{◌≡◌, refl, sym, ap, ◌∙◌}
-use types.Run.{OneOf}
-use denote.Enum.Declared.{tag_of}
 use lib.Dec.{eqb, ltb}
 use borrow.Author.Tests.{le-ltb, ltb-false, ne_eqb, eq-eqb, eqb-false}
 use Rattle.growth.specs.declared.Policy.{Policy}
@@ -15,9 +10,7 @@ use Rattle.window.specs.Fill.{most, reported, holds}
 use Rattle.window.specs.declared.fill.Fill.{Fill}
 use Rattle.reader.specs.declared.state.Mark.{Mark}
 use Rattle.reader.specs.declared.state.Phase.{Phase}
-use Rattle.reader.specs.declared.state.Phase.TheVariants as phase
 use Rattle.reader.specs.declared.state.Reader.{Reader}
-use Rattle.reader.specs.contracts.state.Phase.{the_type as Phase·type}
 use Rattle.reader.specs.State.{sane, lent_as, is_current}
 use Rattle.reader.specs.Calls.{setup_refused, setup_of, made, refused_by, done, took_over, report_of, misplaced, sought_in, sought_out, seek_of, unknown, shown_in, place_of, held, missing, current_of}
 

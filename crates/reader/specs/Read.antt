@@ -8,7 +8,6 @@ use Rattle.scan.specs.declared.ends.Stop.{Stop}
 use Rattle.scan.specs.declared.ends.Stop.TheVariants as stop
 use Rattle.scan.specs.declared.line.Blank.{Blank}
 use Rattle.window.specs.Fill.{asking, ready, slid, slid_window, widened_to, of_capacity}
-use Rattle.window.specs.declared.fill.Ask.{Ask}
 use Rattle.reader.specs.declared.state.Reader.{Reader}
 use Rattle.reader.specs.declared.state.Phase.{Phase}
 use Rattle.reader.specs.declared.state.Phase.TheVariants as phase

@@ -1,6 +1,8 @@
 // A record that borrows window and line ends (01, module 8; fasta.rs, `RefRecord`): a reader's current record as one value, with the window
 // and the table that were lent to the reader. Its functions are the views of the current record (crate view), so they refuse as those do:
 // 7 without a current record, 11 in a state that refusal 11 names.
+#![tactic(auto)]
+
 ghost use Rattle.view.specs.Current.{Head, Id, Desc, Seq};
 ghost use Rattle.refrecord.specs.Record.{New, Of, LineOf, ShownOf};
 

@@ -1,5 +1,7 @@
 // A record's writers (01, modules 3 and 5) over bytes, the place of its `>` and its recorded ends, the head's end first, and of a reader's
 // current record. Each is total: it tests the ends that it uses. What is written goes straight from the bytes into the output.
+#![tactic(auto)]
+
 mod current;
 mod lines;
 mod unchanged;

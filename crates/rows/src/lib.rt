@@ -1,4 +1,6 @@
 // What the program writes (01, module 10), put into a lent output from a place on: a row for each record, and the last line.
+#![tactic(auto)]
+
 mod current;
 mod line;
 mod number;

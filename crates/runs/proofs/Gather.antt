@@ -26,7 +26,7 @@ use Rattle.reader.specs.declared.state.Reader.{Reader}
 use Rattle.reader.specs.declared.state.Phase.{Phase}
 use Rattle.reader.specs.declared.state.Phase.TheVariants as phase
 use Rattle.reader.specs.State.{Good, byte_of, is_current}
-use Rattle.reader.specs.Read.{Said, gives, ends, refuses, reached, searches, passed}
+use Rattle.reader.specs.Read.{gives, reached, searches, passed}
 use Rattle.reader.specs.Look.{Seen, whole, unfinished, over, denied, Looked, looked_to, looks_behind, look_of, put_back_of}
 use Rattle.reader.proofs.Sanity.{and-true, sane-true}
 use Rattle.reader.proofs.ReadLaws.{lent-true}

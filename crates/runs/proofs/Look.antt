@@ -22,7 +22,7 @@ use Rattle.reader.specs.declared.state.Phase.{Phase}
 use Rattle.reader.specs.declared.state.Phase.TheVariants as phase
 use Rattle.reader.specs.State.{Good, byte_of, sane, is_current, with_mark, in_phase, mark_at}
 use Rattle.reader.specs.Read.{gives, Did, reached, stopped, searches, hunted, passed}
-use Rattle.reader.specs.Look.{Seen, whole, unfinished, over, denied, Looked, sees, looked_at, left_ahead, looked_to, looks_behind, look_of, put_back_of}
+use Rattle.reader.specs.Look.{Seen, whole, unfinished, over, denied, Looked, looked_at, left_ahead, looked_to, looks_behind, look_of, put_back_of}
 use Rattle.reader.proofs.Sanity.{and-true, sane-true}
 use Rattle.reader.proofs.ReadLaws.{closed-full, closed-more, hunt-goes, filled-told, passed-good, lent-true}
 use Rattle.reader.proofs.LookLaws.{shut-full, shut-more, to-told, to-not, on-found, look-over, look-waits, look-goes, look-behind, put-current}

@@ -1,4 +1,6 @@
 // Record sets (01, module 6, refusal 12): the records that are whole in the window, copied with it, and their views, writers and positions by number.
+#![tactic(auto)]
+
 mod copies;
 mod gather;
 mod read;

@@ -1,7 +1,7 @@
 -- What the stored vectors ask (tests/vectors), put to the definitions that contracts and theorems cite: `due`, `records_from`, `head_of`, `seq_lines`,
 -- `id_of`, `desc_of`, `seq_of`, the writers' texts with `filled` and `wrapped`, `grown`. What the bench list asks is asked in its words (crates/bench).
 -- Assumes nothing.
-use Rattle.std.specs.Prelude.{ℕ, List, [], ◌∷◌, map, drop}
+use Rattle.std.specs.Prelude.{ℕ, List, map, drop}
 use Rattle.std.proofs.Math.Option.{Option}
 use Rattle.bench.specs.Table.{Question, Reply, hears, texts, shown, recs}
 use Rattle.bench.specs.Table as bench

@@ -2,7 +2,7 @@
 -- every reply is what the Rust answered there, and the definitions compute the same. Assumes nothing.
 use Rattle.std.specs.Prelude.{List, [], ◌∷◌, map, ◌≡◌, refl}
 use Rattle.std.proofs.Math.Option.{none, some}
-use Rattle.bench.specs.Table.{reads, rewrites, shows, the_end, refusal, hears, texts}
+use Rattle.bench.specs.Table.{reads, rewrites, shows, the_end, refusal, hears, texts, shown, asked as asked_of_bench}
 use Rattle.growth.specs.declared.Policy.TheVariants.{StdPolicy, DoubleUntil, DoubleUntilLimited}
 use Rattle.growth.specs.Growth.{grown}
 use Rattle.growth.specs.Chain.{largest, chain}
@@ -95,7 +95,7 @@ the_reads =
     []
 
 pub reads-right : map (λ (v : Vector). asked v.query) the_reads ≡ map (λ (v : Vector). v.said) the_reads
-unfolding asked ascii due meaning largest chain unchanged_text copy_of listing head_of seq_lines
+unfolding asked asked_of_bench shown ascii due meaning largest chain unchanged_text copy_of listing head_of seq_lines
 reads-right = refl
 
 -- the same behind a seek to a position that the reader gave
@@ -123,7 +123,7 @@ the_resumes =
     []
 
 pub resumes-right : map (λ (v : Vector). asked v.query) the_resumes ≡ map (λ (v : Vector). v.said) the_resumes
-unfolding asked ascii due records_from largest head_of seq_lines
+unfolding asked shown ascii due records_from largest head_of seq_lines
 resumes-right = refl
 
 -- id, description and joined sequence of each record
@@ -219,7 +219,7 @@ the_writers =
     []
 
 pub writers-right : map (λ (v : Vector). asked v.query) the_writers ≡ map (λ (v : Vector). v.said) the_writers
-unfolding asked ascii due meaning largest chain unchanged_text copy_of listing head_of seq_lines wrap_seq_iter_text
+unfolding asked asked_of_bench shown ascii due meaning largest chain unchanged_text copy_of listing head_of seq_lines wrap_seq_iter_text
 writers-right = refl
 
 -- what a free writer answers, and the output behind it, which was full of `#`

@@ -1,1 +1,2 @@
 // Answers of the Rust as a table in specs/, which has no code.
+#![tactic(auto)]

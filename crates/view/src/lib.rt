@@ -1,5 +1,7 @@
 // Views of a record (01, module 5) over bytes, the place of its `>` and its recorded ends, the head's end first: a window's current
 // record and a set's record are both such. Each is total: it tests the ends that it uses.
+#![tactic(auto)]
+
 mod current;
 mod joined;
 mod parts;

@@ -1,5 +1,7 @@
 // Writers (01, module 3; the free functions at the end of fasta.rs): each fills the front of the output, answers the length and leaves
 // the rest.
+#![tactic(auto)]
+
 ghost use Rattle.write.specs.Output.{WriteHead, WriteIdDesc, WriteSeq, WriteWrapSeq, WriteTo, WriteParts, WriteWrap};
 
 mod need;

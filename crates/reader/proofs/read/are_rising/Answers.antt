@@ -1,6 +1,5 @@
 -- `are_rising` looks at one end after the other: whether the ends rise from the start is whether those left rise from the last one passed.
 -- Assumes nothing.
-use Prim.Native.Nat.{◌-◌}
 use native.Mathlib.Omega.{arith}
 use mathlib.Core.Path.{refl, sym, ◌∙◌}
 use Rattle.reader.proofs.Rising.{rising-end, rising-low, rising-high, rising-next}

@@ -1,6 +1,6 @@
 -- `measure` passes ends that rise. The loop's invariant: the test of all is the test of those left, and the length so far, at most the last
 -- end, and the length of the lines left are the length of all. Assumes nothing.
-use Prim.Native.Nat.{◌+◌, ◌-◌}
+use Prim.Native.Nat.{◌+◌}
 use native.Mathlib.Omega.{arith}
 use mathlib.Core.Bool.{false≢true}
 use mathlib.Core.Path.{refl, sym, ap, ◌∙◌}

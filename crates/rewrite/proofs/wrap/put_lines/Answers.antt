@@ -1,5 +1,5 @@
 -- `put_lines` goes from line to line. The loop's invariant: the ends left rise, and their lines joined are still due (`Due`). Assumes nothing.
-use Prim.Native.Nat.{suc, ◌+◌, ◌-◌}
+use Prim.Native.Nat.{suc, ◌+◌}
 use native.Mathlib.Omega.{arith}
 use lib.ListN.{get_or, drop}
 use Rattle.view.proofs.Joins.{lines-at, joined_end, joined-turn}

@@ -1,5 +1,4 @@
 -- `search` goes from line end to line end. The loop's invariant: the search from the present place is the search asked for. Assumes nothing.
-use Prim.Native.Nat.{◌-◌}
 use native.Mathlib.Omega.{arith}
 use mathlib.Core.Logic.{inl, inr}
 use mathlib.Core.Path.{refl, sym, ◌∙◌}

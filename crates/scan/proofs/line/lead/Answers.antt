@@ -1,5 +1,5 @@
 -- `lead` goes from line to line. The loop's invariant: the lead from the present place is the lead asked for. Assumes nothing.
-use Prim.Native.Nat.{ℕ, ◌+◌, ◌-◌}
+use Prim.Native.Nat.{ℕ, ◌+◌}
 use native.Mathlib.Omega.{arith}
 use mathlib.Core.Path.{refl, sym, ap, ◌∙◌}
 use lib.ListN.{drop}

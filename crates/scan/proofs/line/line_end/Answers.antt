@@ -1,5 +1,4 @@
 -- Blocks without a `\n` are passed. The loop's invariant: the end from the present place is the end asked for. Assumes nothing.
-use Prim.Native.Nat.{◌-◌}
 use mathlib.Core.Path.{refl, sym, ◌∙◌}
 use Rattle.scan.proofs.line.line_end.Goals as goal
 

@@ -1,5 +1,4 @@
 -- `line_end_by_1` passes bytes that are no `\n`. The loop's invariant: the end from the present place is the end asked for. Assumes nothing.
-use Prim.Native.Nat.{◌-◌}
 use mathlib.Core.Path.{sym, ◌∙◌}
 use Rattle.scan.proofs.LineLaws.{line-end-past, line-end-found, line-end-next}
 use Rattle.scan.proofs.line.line_end_by_1.Goals as goal

@@ -1,6 +1,6 @@
 -- `join` pastes line by line. The loop's invariant: pasting the lines left leaves what pasting all into the given scratch leaves.
 -- Assumes nothing.
-use Prim.Native.Nat.{ℕ, ◌-◌}
+use Prim.Native.Nat.{ℕ}
 use native.Mathlib.Omega.{arith}
 use mathlib.Core.List.{List}
 use mathlib.Core.Path.{refl, sym, ap, ◌∙◌}

@@ -1,6 +1,5 @@
 -- `joined_len` adds line by line. The loop's invariant: the length so far, at most the last end, and the length of the lines left are the
 -- length of all. Assumes nothing.
-use Prim.Native.Nat.{◌-◌}
 use native.Mathlib.Omega.{arith}
 use mathlib.Core.Path.{ap}
 use lib.ListN.{length}

@@ -1,5 +1,4 @@
 -- `rise` passes ends that rise. The loop's invariant: the test of all is the test of those left, from the last one passed. Assumes nothing.
-use Prim.Native.Nat.{◌-◌}
 use native.Mathlib.Omega.{arith}
 use mathlib.Core.Path.{sym, ◌∙◌}
 use borrow.Author.Tests.{ltb-true, ltb-false}

@@ -1,5 +1,4 @@
 -- `id_len` passes bytes that are no space. The loop's invariant: the id is the bytes passed and the id of the rest. Assumes nothing.
-use Prim.Native.Nat.{◌-◌}
 use native.Mathlib.Omega.{arith}
 use Rattle.view.proofs.Heads.{id-found, id_next, id-past}
 use Rattle.view.proofs.parts.id_len.Goals as goal

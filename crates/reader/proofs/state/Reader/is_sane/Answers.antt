@@ -3,7 +3,7 @@ use Prim.Native.Nat.{◌+◌, ◌-◌}
 use native.Mathlib.Omega.{arith}
 use mathlib.Core.Path.{sym, ◌∙◌}
 use lib.Dec.{leb}
-use borrow.Author.Tests.{ltb-true, ltb-false, leb-true, le-leb, eqb-true, eqb-false}
+use borrow.Author.Tests.{ltb-false, leb-true, le-leb, eqb-true}
 use Rattle.window.specs.Fill.{sound}
 use Rattle.window.proofs.Laws.{not-both, sound-true, true-sound}
 use Rattle.reader.specs.State.{is_current, byte_of}

@@ -3,7 +3,7 @@ use native.Mathlib.Omega.{arith}
 use mathlib.Core.Option.{some}
 use mathlib.Core.Path.{sym, ap, ◌∙◌}
 use lib.ListN.{length}
-use borrow.Author.Tests.{ltb-true, ltb-false, eqb-true, eqb-false}
+use borrow.Author.Tests.{ltb-false, eqb-false}
 use Rattle.reader.specs.declared.state.Phase.TheVariants as phase
 use Rattle.reader.specs.declared.state.Reader.{Reader}
 use Rattle.reader.proofs.CallLaws.{same-reader, setup-made, setup-refused}

@@ -2,7 +2,7 @@
 use Prim.Native.Nat.{◌-◌}
 use native.Mathlib.Omega.{arith}
 use lib.Dec.{leb}
-use borrow.Author.Tests.{ltb-true, ltb-false, le-leb, leb-true}
+use borrow.Author.Tests.{ltb-false, le-leb, leb-true}
 use Rattle.set.proofs.Numbers.{sound-is, unsound}
 use Rattle.set.proofs.state.Set.is_sound.Goals.{then-bytes-self-via-else-bytes-self+then-marks-self, then-bytes-self-via-then-bytes-self}
 use Rattle.set.proofs.state.Set.is_sound.Goals as goal

@@ -2,7 +2,7 @@
 use Prim.Native.Nat.{◌+◌}
 use native.Mathlib.Omega.{arith}
 use mathlib.Core.Path.{sym, ap, ◌∙◌}
-use borrow.Author.Tests.{ltb-true, ltb-false}
+use borrow.Author.Tests.{ltb-false}
 use Rattle.window.specs.Fill.{most}
 use Rattle.window.specs.declared.offset.InputOffset.{InputOffset}
 use Rattle.set.proofs.Places.{placed-out, placed-above, placed_at, sum_is, sum-beyond}

@@ -1,7 +1,7 @@
 -- `record` tests refusals 11 and 7 and the record's ends in the definition's order. Assumes nothing.
 use native.Mathlib.Omega.{arith}
 use mathlib.Core.Path.{sym, ◌∙◌}
-use borrow.Author.Tests.{ltb-true, ltb-false}
+use borrow.Author.Tests.{ltb-false}
 use Rattle.reader.proofs.Sanity.{passed, failed}
 use Rattle.set.specs.Set.{held}
 use Rattle.set.proofs.Numbers.{numbers-inside, record-unsound, record-none, record-endless, record-beyond, record-held}

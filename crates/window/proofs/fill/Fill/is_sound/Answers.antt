@@ -2,7 +2,7 @@
 use Prim.Native.Nat.{◌-◌}
 use native.Mathlib.Omega.{arith}
 use lib.Dec.{leb}
-use borrow.Author.Tests.{leb-true, le-leb, ltb-true, ltb-false, eqb-true, eqb-false}
+use borrow.Author.Tests.{leb-true, le-leb, ltb-false, eqb-true}
 use Rattle.window.specs.Fill.{most}
 use Rattle.window.proofs.Laws.{not-both, sound-is, unsound}
 use Rattle.window.proofs.fill.Fill.is_sound.Goals.{else-self-3-via-else-self-3, else-self-3-via-then-self-3+else-self-4, then-self-via-else-self+then-self-2, then-self-via-then-self}
