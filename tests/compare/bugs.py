@@ -1,9 +1,10 @@
 """Bugs for a copy of the port's code, and programs built from a copy without proof: for the test of the comparison itself, and for tests/hostile.
 
-Nothing proves a copy with a bug, so it is built by `rt try`. That runs a program on the interpreter, then compiles it at -O0 with checks of what the
-compiler may assume of proved code, and runs what it compiled, but keeps none of it. So it is given a kit made of links to the one in use, with a
-linker that keeps what it links. A second such kit has a compiler that takes -O3 for -O0. Copies and kits lie outside of the repository, where `rt ci`
-takes no file of Rattle but those of its crates.
+Nothing proves a copy with a bug, so it is built by `rt try`. That runs a program on the interpreter, then compiles it
+at -O0 with checks of what the compiler may assume of proved code, and runs what it compiled, but keeps none of it. So
+it is given a kit made of links to the one in use, with a linker that keeps what it links. A second such kit has a
+compiler that takes -O3 for -O0. Copies and kits lie outside of the repository, where `rt ci` takes no file of Rattle
+but those of its crates.
 """
 import collections
 import os
@@ -13,8 +14,8 @@ import subprocess
 import sys
 import tempfile
 
-# In `file`, the text `new` in place of the line `old`, which must stand there exactly once. No bug leads outside of a slice, where a build with checks
-# stops: each is to be found by an answer.
+# In `file`, the text `new` in place of the line `old`, which must stand there exactly once. No bug leads outside of a
+# slice, where a build with checks stops: each is to be found by an answer.
 Bug = collections.namedtuple("Bug", "name what file old new")
 BUGS = (
     Bug("search", "a last `\\n` is recorded early", "crates/scan/src/ends.rt",
@@ -62,14 +63,17 @@ class Builder:
     def __init__(self, root, folder):
         self.root, self.folder = root, folder
         self.kept = os.path.join(folder, "kept")
-        self.kits = dict(zip(BUILDS, (self.linked("kit0", {"ld.lld": LINKER}), self.linked("kit3", {"ld.lld": LINKER, "clang": COMPILER}))))
+        tools = {"ld.lld": LINKER}, {"ld.lld": LINKER, "clang": COMPILER}
+        self.kits = {name: self.linked("kit%d" % number, tools[number]) for number, name in enumerate(BUILDS)}
 
     def linked(self, name, tools):
-        """A kit made of links to the one in use, but for these tools, and for the two files by whose place `rt` knows its kit."""
+        """A kit made of links to the one in use, but for these tools, and for the two files by whose place `rt` knows
+        its kit. Gives its `rt`."""
         rt = shutil.which("rt") or sys.exit("compare: no `rt` on the path")
         home = os.path.dirname(os.path.dirname(os.path.realpath(rt)))
         kit = os.path.join(self.folder, name)
-        for inner, others in (("", ("bin", "toolchain")), ("bin", ("rt", "rtlib.py")), ("toolchain", ("bin",)), ("toolchain/bin", tools)):
+        places = {"": ("bin", "toolchain"), "bin": ("rt", "rtlib.py"), "toolchain": ("bin",), "toolchain/bin": tools}
+        for inner, others in places.items():
             os.makedirs(os.path.join(kit, inner))
             for part in os.listdir(os.path.join(home, inner)):
                 if part not in others:
@@ -102,14 +106,16 @@ class Builder:
         programs = {}
         for name in names:
             out, said = self.tried(self.kits[name], copy, crate)
-            if out != NOTHING[crate] or "\nchecked: ended status=0\n" not in "\n" + said or not os.path.exists(self.kept):
+            ended = re.search(r"(?m)^checked: ended status=0$", said)
+            if out != NOTHING[crate] or not ended or not os.path.exists(self.kept):
                 sys.exit("compare: %s is not built (%s):\n%s" % (crate, copy, said))
             programs[name] = os.path.join(copy, "%s.%d" % (crate, BUILDS.index(name)))
             os.rename(self.kept, programs[name])
         return programs
 
     def interpreted(self, copy, crate, runs):
-        """Of each run of a program of a copy, an input and what is to be printed of it: None if the interpreter prints that, else what is said of it."""
+        """Of each run of a program of a copy, an input and what is to be printed of it: None if the interpreter prints
+        that, else what is said of it."""
         with tempfile.TemporaryDirectory(dir=self.folder) as folder:
             for number, texts in enumerate(runs):
                 for end, text in zip(("", ".stdout"), texts):
@@ -119,8 +125,9 @@ class Builder:
         ends = {}
         for lines in re.findall(r"(?m)((?:^(?!case=).*\n)*^case=.*)", said):
             ends[int(re.search(r"case=(\d+)", lines).group(1))] = lines
-        return [None if re.match(r"case=\d+ run=ended status=0 runners=2 output=expected ", ends.get(number, "")) else ends.get(number, said)[:300]
-                for number in range(len(runs))]
+        right = re.compile(r"case=\d+ run=ended status=0 runners=2 output=expected ")
+        told = [ends.get(number, said) for number in range(len(runs))]
+        return [None if right.match(text) else text[:300] for text in told]
 
     @staticmethod
     def tried(rt, copy, crate, *words):

@@ -1,9 +1,10 @@
 """The programs as they are built in other ways, held against the proved ones: for tests/hostile/run --builds.
 
-`rt try` compiles a program from its sources without proof, with a check before each assumption that the compiler makes of proved code, where the
-program stops if one is false: here at -O0 and at -O3. `rt ci` leaves beside each program the one that Rattle's own compiler makes of the proved code.
-Each of these gets what the proved program gets, and must do the same: exit status, standard output and standard error. The interpreter, which follows
-the proved form of the code step by step, gets a small sample.
+`rt try` compiles a program from its sources without proof, with a check before each assumption that the compiler makes
+of proved code, where the program stops if one is false: here at -O0 and at -O3. `rt ci` leaves beside each program the
+one that Rattle's own compiler makes of the proved code. Each of these gets what the proved program gets, and must do
+the same: exit status, standard output and standard error. The interpreter, which follows the proved form of the code
+step by step, gets a small sample.
 """
 import collections
 import os
@@ -30,7 +31,8 @@ Run = collections.namedtuple("Run", "program kind parts number")
 
 
 class Builds:
-    """The builds of both programs from one copy of the code, and `more` of them, and where they differ from the proved ones."""
+    """The builds of both programs from one copy of the code, and `more` of them, and where they differ from the
+    proved ones."""
 
     def __init__(self, builder, bug, proved, outcome_of, more=None):
         self.builder, self.copy, self.proved, self.outcome_of = builder, builder.copy(bug), proved, outcome_of
@@ -122,8 +124,8 @@ def compare(root, proved, list_outcome, work, sample):
         for kind, count in sorted(builds.counts.items()):
             print("%8d  %s" % (count, kind))
         builds.show(8)
-    print("%d inputs and scripts for the programs built with checks at -O0 and at -O3 and by Rattle's own compiler, or for the interpreter: "
-          "%d answered otherwise than by the proved programs (%.0f s)" % (sum(builds.counts.values()), len(builds.found), time.monotonic() - began))
+    print("%d inputs and scripts for the programs built with checks at -O0 and at -O3 and by Rattle's own compiler, or for "
+          "the interpreter: %d answered otherwise than by the proved programs (%.0f s)" % (sum(builds.counts.values()), len(builds.found), time.monotonic() - began))
     return not builds.found
 
 
@@ -137,8 +139,9 @@ def planted(root, proved, list_outcome, work):
             for run in work():
                 builds.compare(run)
             builds.interpret([Run("list", "interpreted", [SHOWS], 1)])
-            by = collections.Counter("%s %s" % (run.program, build if build in builds.programs[run.program] else "on the interpreter")
-                                     for build, run in builds.found)
+            by = collections.Counter(
+                "%s %s" % (run.program, build if build in builds.programs[run.program] else "on the interpreter")
+                for build, run in builds.found)
             what, given = fault.what if fault else "no fault", sum(builds.counts.values())
             print("%s: %d differences in %d inputs and scripts" % (what, len(builds.found), given))
             for name, count in sorted(by.items()):
