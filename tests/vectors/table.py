@@ -164,14 +164,14 @@ def grows(vector):
 # How many vectors of each kind are taken for a part.
 MOST = {"reads": 5, "resumes": 6, "names": 3, "writers": 7, "fills": 10, "growths": 2}
 # What each part holds, and the definitions that compute its answers; those of the bench list's questions are all opened together.
-LISTED = "due meaning largest chain unchanged_text copy_of listing head_of seq_lines"
+LISTED = "asked_of_bench shown ascii due meaning largest chain unchanged_text copy_of listing head_of seq_lines"
 PARTS = {
     "reads": ("what single reads give to the end or to a refusal, each record with line, byte, head and lines", LISTED),
-    "resumes": ("the same behind a seek to a position that the reader gave", "due records_from largest head_of seq_lines"),
-    "names": ("id, description and joined sequence of each record", "naming meaning head_of seq_of id_of desc_of"),
+    "resumes": ("the same behind a seek to a position that the reader gave", "shown ascii due records_from largest head_of seq_lines"),
+    "names": ("id, description and joined sequence of each record", "ascii naming meaning head_of seq_of id_of desc_of"),
     "writers": ("what `write`, `write_wrap` and `write_unchanged` make of each record", LISTED + " wrap_seq_iter_text"),
-    "fills": ("what a free writer answers, and the output behind it, which was full of `#`", "writing filled wrapped wrap_seq_text"),
-    "growths": ("what the policies grow sizes to", "grown"),
+    "fills": ("what a free writer answers, and the output behind it, which was full of `#`", "ascii writing filled wrapped wrap_seq_text"),
+    "growths": ("what the policies grow sizes to", "ascii grown"),
 }
 
 
@@ -198,7 +198,7 @@ HEAD = """-- Made by `python3 tests/vectors/make`, not to be edited by hand. Vec
 -- every reply is what the Rust answered there, and the definitions compute the same. Assumes nothing.
 use Rattle.std.specs.Prelude.{List, [], ◌∷◌, map, ◌≡◌, refl}
 use Rattle.std.proofs.Math.Option.{none, some}
-use Rattle.bench.specs.Table.{reads, rewrites, shows, the_end, refusal, hears, texts}
+use Rattle.bench.specs.Table.{reads, rewrites, shows, the_end, refusal, hears, texts, shown, asked as asked_of_bench}
 use Rattle.growth.specs.declared.Policy.TheVariants.{StdPolicy, DoubleUntil, DoubleUntilLimited}
 use Rattle.growth.specs.Growth.{grown}
 use Rattle.growth.specs.Chain.{largest, chain}
@@ -225,7 +225,7 @@ def text_of(vectors, growth):
             for question, reply in pairs:
                 out += broken("vector (%s)" % question) + broken("(%s) ∷" % reply)
         out += ["    []", "", "pub %s-right : map (λ (v : Vector). asked v.query) %s ≡ map (λ (v : Vector). v.said) %s" % (part, table, table),
-                "unfolding asked ascii " + opened, "%s-right = refl" % part, ""]
+                "unfolding asked " + opened, "%s-right = refl" % part, ""]
     return "\n".join(out).rstrip("\n") + "\n"
 
 
