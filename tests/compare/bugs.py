@@ -21,22 +21,22 @@ BUGS = (
     Bug("search", "a last `\\n` is recorded early", "crates/scan/src/ends.rt",
         "        if bytes.len() <= next {",
         """        if bytes.len() == next {
-            if limit <= n || ends.len() <= n {
-                return stopped(end, n, Stop::Full);
+            if limit <= count || ends.len() <= count {
+                return Searched { at: end, count, stop: Stop::Full };
             }
-            ends[n] = end;
-            return stopped(next, n + 1, Stop::Filled);
+            ends[count] = end;
+            return Searched { at: next, count: count + 1, stop: Stop::Filled };
         }
         if bytes.len() < next {"""),
     Bug("trim", "every final `\\r` goes", "crates/scan/src/line.rt",
-        "        return &line[..last];",
-        "        return trim_cr(&line[..last]);"),
+        "        Some((b'\\r', before)) => before,",
+        "        Some((b'\\r', before)) => trim_cr(before),"),
     Bug("growth", "a size at the limit is no growth", "crates/growth/src/lib.rt",
-        "    if next <= size || limit < next {",
-        "    if next <= size || limit <= next {"),
-    Bug("wrap", "each line is wrapped by itself", "crates/rewrite/src/wrap.rt",
-        "        let end = put_line(scan::trim_cr(&bytes[from..to]), col, wrap, out, here);",
-        "        let end = put_line(scan::trim_cr(&bytes[from..to]), 0, wrap, out, here);"),
+        "    if size < next && next <= limit && next <= window {",
+        "    if size < next && next < limit && next <= window {"),
+    Bug("wrap", "each line is wrapped by itself", "crates/rewrite/src/lines.rt",
+        "        column.put_line(line);",
+        "        column.col = 0;\n        column.put_line(line);"),
 )
 
 LINKER = """#!/bin/sh

@@ -18,9 +18,9 @@ import start
 # way to the right number, which the compiler may assume never to be.
 FAULTS = (
     next(bug for bug in bugs.BUGS if bug.name == "trim"),
-    bugs.Bug("below", "a difference below 0 on the way", "crates/scan/src/line.rt",
-             "    let last = n - 1;",
-             "    let last = n - 2 + 1;"),
+    bugs.Bug("below", "a difference below 0 on the way", "crates/reader/src/hunt.rt",
+             "        let from = self.mark.search.0.max(self.mark.start.0 + 1).min(filled);",
+             "        let from = self.mark.search.0.max(self.mark.start.0 - 1 + 2).min(filled);"),
 )
 SHOWS = b">a\r\r\nA\n"  # an input in which both faults show
 OWN = "by Rattle's own compiler"

@@ -1,98 +1,123 @@
-// Buffered output: the buffer is lent, and how much of it is taken goes in and out. It is written when it is full.
-use itoa::Buffer;
-use std::io::Stdout;
+// Buffered output: lines are kept in a buffer, which is written when it is full, and at the end.
+ghost use Rattle.std.specs.Prelude.{◌≡◌, ◌≤◌};
 
-// The buffer, and what it is written to. A write that fails is passed over, and the program goes on.
+use reader::Position;
+use refusal::Refusal;
+use std::fmt;
+use std::fmt::{Display, Formatter, Write};
+use std::io::Stdout;
+use view::{Full, FullError, View};
+
+// A write that fails is passed over, and the program goes on.
 #[derive(Drop)]
 pub(crate) struct Output {
-    pub(crate) buffer: [u8; 65536],
-    pub(crate) stdout: Stdout,
+    buffer: [u8; 65536],
+    at: usize,
+    stdout: Stdout,
+    ghost inside: { at ≤ 65536 },
 }
 
-// One byte more.
-pub(crate) fn put(out: &mut Output, at: usize, byte: u8) -> usize {
-    if at < 65536 {
-        out.buffer[at] = byte;
-        return at + 1;
+impl Output {
+    pub(crate) fn new(stdout: Stdout) -> Output {
+        Output {
+            buffer: [0; 65536],
+            at: 0,
+            stdout,
+        }
     }
-    let _ = out.stdout.write_all(&out.buffer);
-    out.buffer[0] = byte;
-    1
-}
 
-// Writes what is left.
-pub(crate) fn flush(out: &Output, at: usize) {
-    write_front(out.stdout, &out.buffer, at);
-}
+    // A text, as a line.
+    pub(crate) fn line(&mut self, text: impl Display + Drop) {
+        let _ = self.writeln(text);
+    }
 
-fn write_front(stdout: Stdout, out: &[u8], at: usize) {
-    if at <= out.len() {
-        let _ = stdout.write_all(&out[..at]);
+    // A refusal, by its number; the need stands behind 9.
+    pub(crate) fn refusal(&mut self, refusal: impl Refusal) {
+        match refusal.number() {
+            9 => self.line(format_args!("refused 9 {}", refusal.need())),
+            number => self.line(format_args!("refused {number}")),
+        }
+    }
+
+    // What is done or refused.
+    pub(crate) fn outcome(&mut self, outcome: Result<(), impl Refusal>) {
+        match outcome {
+            Ok(()) => self.line("ok"),
+            Err(refusal) => self.refusal(refusal),
+        }
+    }
+
+    // What a writer answers, of which the room holds the text.
+    pub(crate) fn wrote(&mut self, length: Result<usize, impl Refusal>, room: &[u8]) {
+        match length {
+            Ok(n) => self.line(format_args!("wrote {}", Hex(room.get(..n).unwrap_or(room)))),
+            Err(refusal) => self.refusal(refusal),
+        }
+    }
+
+    // What a view shows.
+    pub(crate) fn view(&mut self, view: View, bytes: &[u8]) {
+        match view {
+            Ok(Some(_)) => self.line(format_args!("part {}", Hex(view::shown(view, bytes)))),
+            Ok(None) => self.line("none"),
+            Err(refusal) => self.refusal(refusal),
+        }
+    }
+
+    // A full sequence: the part of the bytes or of the scratch that it is.
+    pub(crate) fn full(&mut self, full: Result<Full, FullError>, bytes: &[u8], scratch: &[u8]) {
+        let picked = Hex(view::pick(full, bytes, scratch));
+        match full {
+            Ok(Full::Window(_)) => self.line(format_args!("window {picked}")),
+            Ok(Full::Scratch(_)) => self.line(format_args!("scratch {picked}")),
+            Err(refusal) => self.refusal(refusal),
+        }
+    }
+
+    // A word and a record's place, as a line.
+    pub(crate) fn place(&mut self, word: &str, place: Position) {
+        self.line(format_args!("{word} {} {}", place.line, place.byte.0));
+    }
+
+    // Writes what is kept.
+    pub(crate) fn flush(&mut self)
+        ensures { self.new.at ≡ 0 }
+    {
+        let _ = self.stdout.write_all(&self.buffer[..self.at]);
+        self.at = 0;
+    }
+
+    // Keeps one byte more.
+    fn put(&mut self, byte: u8) {
+        if self.at == self.buffer.len() {
+            self.flush();
+        }
+        self.buffer[self.at] = byte;
+        self.at += 1;
     }
 }
 
-// A text as it stands.
-pub(crate) fn put_text(out: &mut Output, from: usize, text: &[u8]) -> usize {
-    let mut at = from;
-    let mut i = 0;
-    while i < text.len() {
-        at = put(out, at, text[i]);
-        i += 1;
+impl Write for Output {
+    fn write_str(&mut self, text: &str) -> fmt::Result {
+        for byte in text.as_bytes() {
+            self.put(*byte);
+        }
+        Ok(())
     }
-    at
 }
 
-// A space and a number.
-pub(crate) fn put_number(out: &mut Output, from: usize, value: u64) -> usize {
-    let mut digits = Buffer::new();
-    let at = put(out, from, b' ');
-    put_text(out, at, digits.format(value).as_bytes())
-}
+// Bytes in hex, `-` for none.
+#[derive(Clone, Copy)]
+pub(crate) struct Hex<'a>(pub(crate) &'a [u8]);
 
-// A word and a number, as a line.
-pub(crate) fn put_one(out: &mut Output, from: usize, word: &[u8], value: u64) -> usize {
-    let at = put_text(out, from, word);
-    let end = put_number(out, at, value);
-    put(out, end, b'\n')
-}
-
-// A word and two numbers, as a line.
-pub(crate) fn put_two(out: &mut Output, from: usize, word: &[u8], one: u64, two: u64) -> usize {
-    let at = put_text(out, from, word);
-    let behind = put_number(out, at, one);
-    put_one(out, behind, b"", two)
-}
-
-// A space and bytes in hex, `-` for none.
-pub(crate) fn put_hex(out: &mut Output, from: usize, bytes: &[u8]) -> usize {
-    let mut at = put(out, from, b' ');
-    if bytes.len() == 0 {
-        return put(out, at, b'-');
+impl Display for Hex<'_> {
+    fn fmt<W: Write>(&self, f: &mut Formatter<W>) -> fmt::Result {
+        if self.0.is_empty() {
+            return write!(f, "-");
+        }
+        for byte in self.0 {
+            write!(f, "{byte:02x}")?;
+        }
+        Ok(())
     }
-    let mut i = 0;
-    while i < bytes.len() {
-        let byte = bytes[i];
-        at = put(out, at, digit(byte / 16));
-        at = put(out, at, digit(byte % 16));
-        i += 1;
-    }
-    at
-}
-
-// A word and bytes in hex, as a line.
-pub(crate) fn put_part(out: &mut Output, from: usize, word: &[u8], bytes: &[u8]) -> usize {
-    let at = put_text(out, from, word);
-    let end = put_hex(out, at, bytes);
-    put(out, end, b'\n')
-}
-
-// The hex digit of a number below 16.
-fn digit(n: u8) -> u8 {
-    if n < 10 {
-        return b'0' + n;
-    }
-    if n < 16 {
-        return b'a' + (n - 10);
-    }
-    b'?'
 }

@@ -1,131 +1,146 @@
-// Scripts: their numbers, and how long each call is.
+// Scripts are read from front to back: each step takes what it reads off the front of the bytes that are left.
+ghost use Rattle.std.specs.Prelude.{◌≤◌};
 
-// The most that a scratch, a writer's room or a set's bytes may have, and the most records and ends of a set.
-const ROOM: u64 = 65536;
+use growth::Policy;
+use std::error::Error;
+use std::fmt;
 
-const RECORDS: u64 = 1024;
+// The most that a scratch, a writer's room or a set's bytes may have, and the most records of a set, their marks, and
+// ends.
+pub(crate) const ROOM: usize = 65536;
 
-const ENDS: u64 = 4096;
+pub(crate) const RECORDS: usize = 1024;
 
-// Byte i behind a place, 0 behind the bytes' end.
-pub(crate) fn byte_at(bytes: &[u8], place: usize, i: usize) -> u8 {
-    if bytes.len() <= place {
-        return 0;
-    }
-    if bytes.len() - place <= i {
-        return 0;
-    }
-    bytes[place + i]
-}
+pub(crate) const MARKS: usize = 2048;
 
-// The little-endian number of n bytes at a place.
-pub(crate) fn number_at(bytes: &[u8], place: usize, n: usize) -> u64 {
-    let mut value = 0;
-    let mut i = n;
-    while i > 0 {
-        i -= 1;
-        value = (value << 8) | wide(byte_at(bytes, place, i));
-    }
-    value
-}
+pub(crate) const ENDS: usize = 4096;
 
-fn wide(byte: u8) -> u64 {
-    byte as u64
-}
+// A script that is cut off, has an unknown call, or is outside the limits.
+#[derive(Clone, Copy, Debug, PartialEq, Eq)]
+pub(crate) struct BadScript;
 
-// The bytes from a place on, none from behind their end.
-pub(crate) fn behind<'a>(bytes: &'a [u8], place: usize) -> &'a [u8] {
-    if place <= bytes.len() {
-        return &bytes[place..];
-    }
-    &bytes[..0]
-}
-
-// The first n bytes, or all of them.
-pub(crate) fn front<'a>(bytes: &'a [u8], n: usize) -> &'a [u8] {
-    if n <= bytes.len() {
-        return &bytes[..n];
-    }
-    bytes
-}
-
-// The first n ends, or all of them.
-pub(crate) fn front_ends<'a>(ends: &'a [usize], n: usize) -> &'a [usize] {
-    if n <= ends.len() {
-        return &ends[..n];
-    }
-    ends
-}
-
-// The sum, or the largest number if it is more.
-pub(crate) fn plus(a: usize, b: usize) -> usize {
-    if usize::MAX - b < a {
-        return usize::MAX;
-    }
-    a + b
-}
-
-// Where the call at a place ends: `usize::MAX` for one that is cut off, unknown or outside the limits.
-pub(crate) fn call_end(bytes: &[u8], place: usize) -> usize {
-    let from = plus(place, 1);
-    let end = plus(
-        from,
-        operands(byte_at(bytes, place, 0), behind(bytes, from)),
-    );
-    if bytes.len() < end {
-        return usize::MAX;
-    }
-    end
-}
-
-// How many bytes a call has behind its code; `usize::MAX` for one that is unknown or outside the limits.
-fn operands(code: u8, bytes: &[u8]) -> usize {
-    match code {
-        1 | 4 | 10 => 0,
-        2 | 11 => 8,
-        3 => 16,
-        5 => set_len(bytes),
-        6 => limited(5, bytes, 9, 13),
-        7 => limited(2, bytes, 9, 13),
-        8 => plus(4, limited(5, behind(bytes, 4), 9, 13)),
-        9 => plus(4, limited(2, behind(bytes, 4), 9, 13)),
-        12 => 4,
-        13 => limited(9, bytes, 21, free_len(bytes)),
-        14 => limited(8, bytes, 9, 9),
-        15 => 12,
-        _ => usize::MAX,
+impl fmt::Display for BadScript {
+    fn fmt<W: fmt::Write>(&self, f: &mut fmt::Formatter<W>) -> fmt::Result {
+        write!(f, "bad script")
     }
 }
 
-// The length, where the choice and the room that stand among the operands are within their limits.
-fn limited(most: u8, bytes: &[u8], room: usize, length: usize) -> usize {
-    if most < byte_at(bytes, 0, 0) {
-        return usize::MAX;
-    }
-    if room < length && ROOM < number_at(bytes, room, 4) {
-        return usize::MAX;
-    }
-    length
+impl Error for BadScript {}
+
+// A length that is within a limit.
+#[derive(Clone, Copy)]
+pub(crate) struct Length<const MOST: usize> {
+    pub(crate) n: usize,
+    ghost within: { n ≤ MOST },
 }
 
-// The length of the operands of a set's read, where the room that they name is within its limits.
-fn set_len(bytes: &[u8]) -> usize {
-    if ROOM < number_at(bytes, 0, 4) {
-        return usize::MAX;
+impl<const MOST: usize> Length<MOST> {
+    pub(crate) const ZERO: Length<MOST> = Length { n: 0 };
+
+    // The front of so much memory, of which there is as much as the limit.
+    pub(crate) fn front<T>(self, memory: &[T; MOST]) -> &[T] {
+        &memory[..self.n]
     }
-    if RECORDS < number_at(bytes, 4, 4) {
-        return usize::MAX;
+
+    pub(crate) fn front_mut<T>(self, memory: &mut [T; MOST]) -> &mut [T] {
+        &mut memory[..self.n]
     }
-    if ENDS < number_at(bytes, 8, 4) {
-        return usize::MAX;
-    }
-    12
 }
 
-// The length of a free writer's operands.
-fn free_len(bytes: &[u8]) -> usize {
-    let a = number_at(bytes, 1, 4) as usize;
-    let b = number_at(bytes, 5, 4) as usize;
-    let c = number_at(bytes, 9, 4) as usize;
-    plus(25, plus(a, plus(b, c)))
+impl<const MOST: usize> TryFrom<usize> for Length<MOST> {
+    type Error = BadScript;
+
+    fn try_from(n: usize) -> Result<Length<MOST>, BadScript> {
+        if MOST < n {
+            return Err(BadScript);
+        }
+        Ok(Length { n })
+    }
+}
+
+// What is left of the scripts.
+#[derive(Drop)]
+pub(crate) struct Script<'a> {
+    pub(crate) rest: &'a [u8],
+}
+
+// What a script begins with: the reader's numbers, what it is lent, its input, and how many calls follow.
+#[derive(Clone, Copy)]
+pub(crate) struct Setup<'a> {
+    pub(crate) capacity: usize,
+    pub(crate) policy: Policy,
+    pub(crate) window: Length<ROOM>,
+    pub(crate) table: Length<ENDS>,
+    pub(crate) input: &'a [u8],
+    pub(crate) calls: u32,
+}
+
+impl<'a> Script<'a> {
+    pub(crate) fn setup(&mut self) -> Result<Setup<'a>, BadScript> {
+        if self.u32()? != 6 {
+            return Err(BadScript);
+        }
+        let capacity = self.size()?;
+        let policy = self.policy()?;
+        let window = Length::try_from(self.size()?)?;
+        let table = Length::try_from(self.size()?)?;
+        let input = self.counted()?;
+        let calls = self.u32()?;
+        Ok(Setup {
+            capacity,
+            policy,
+            window,
+            table,
+            input,
+            calls,
+        })
+    }
+
+    fn policy(&mut self) -> Result<Policy, BadScript> {
+        let kind = self.u64()?;
+        let n = self.size()?;
+        let limit = self.size()?;
+        Policy::of_kind(kind, n, limit).ok_or(BadScript)
+    }
+
+    // A count, and so many bytes.
+    fn counted(&mut self) -> Result<&'a [u8], BadScript> {
+        let count = self.count()?;
+        self.bytes(count)
+    }
+
+    pub(crate) fn bytes(&mut self, n: usize) -> Result<&'a [u8], BadScript> {
+        self.rest.split_off(..n).ok_or(BadScript)
+    }
+
+    // A count of four bytes within a limit.
+    pub(crate) fn length<const MOST: usize>(&mut self) -> Result<Length<MOST>, BadScript> {
+        Length::try_from(self.count()?)
+    }
+
+    pub(crate) fn count(&mut self) -> Result<usize, BadScript> {
+        Ok(self.u32()? as usize)
+    }
+
+    pub(crate) fn size(&mut self) -> Result<usize, BadScript> {
+        Ok(self.u64()? as usize)
+    }
+
+    pub(crate) fn u8(&mut self) -> Result<u8, BadScript> {
+        Ok(u8::from_le_bytes(self.array()?))
+    }
+
+    fn u32(&mut self) -> Result<u32, BadScript> {
+        Ok(u32::from_le_bytes(self.array()?))
+    }
+
+    pub(crate) fn u64(&mut self) -> Result<u64, BadScript> {
+        Ok(u64::from_le_bytes(self.array()?))
+    }
+
+    fn array<const N: usize>(&mut self) -> Result<[u8; N], BadScript> {
+        let (first, rest) = self.rest.split_first_chunk().ok_or(BadScript)?;
+        self.rest = rest;
+        Ok(*first)
+    }
 }

@@ -1,3 +1,3 @@
--- The policy of each kind, and that each promise of the edge allows one answer.
-pub mod Policies
+-- What the writers answer as numbers, and that each promise of the edge allows one answer.
+pub mod Told
 pub mod Unique

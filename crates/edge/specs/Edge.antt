@@ -1,32 +1,14 @@
 -- The host edge (01, module 9): the answers of growth, setup and the writers as numbers. What is grown, set up and written is defined by the
 -- crates below; here stands only how it is told to a C program. Assumes nothing.
-use Rattle.std.specs.Prelude.{ℕ, Bool, true, false, cond, List, [], ◌∷◌, ◌≡◌, eqb}
+use Rattle.std.specs.Prelude.{ℕ, Bool, true, false, List, Result, Ok, Err, ◌≡◌, get_or}
 use Rattle.std.proofs.Math.Option.{Option, none, some}
-use Rattle.growth.specs.Growth.{grown}
+use Rattle.growth.specs.Growth.{grown, policy_of}
 use Rattle.growth.specs.declared.Policy.{Policy}
-use Rattle.growth.specs.declared.Policy.TheVariants.{StdPolicy, DoubleUntil, DoubleUntilLimited}
 use Rattle.reader.specs.Calls.{setup_of}
 use Rattle.reader.specs.declared.state.Reader.{Reader}
 use Rattle.write.specs.Text.{head_text, id_desc_text, seq_text, wrap_seq_text, to_text, parts_text, wrap_text}
-use Rattle.write.specs.Output.{Answer, wrote, refuses, Left, filled, wrapped, described, left}
-use Rattle.write.specs.declared.Wrote.{Wrote}
+use Rattle.write.specs.Output.{Answer, wrote, refuses, Left, filled, wrapped, described}
 use Rattle.rewrite.specs.Rewrite.{iterated_in, unchanged_in}
-use Rattle.rewrite.specs.Rewrite as rewrites
-use Rattle.rewrite.specs.declared.Rewrote.{Rewrote}
-use Rattle.edge.specs.declared.policy.Chosen.{Chosen}
-use Rattle.edge.specs.declared.policy.Chosen.TheVariants as chosen
-
--- the policy of a kind: 0, 1 and 2 in 01's order, and none else
-unfoldable pub policy_of : (kind n limit : ℕ) → Option Policy
-policy_of kind n limit =
-    cond (eqb kind 0) (some StdPolicy) (cond (eqb kind 1) (some (DoubleUntil n)) (cond (eqb kind 2) (some (DoubleUntilLimited n limit)) none))
-
-abbrev pub chosen_by : Chosen → Option Policy
-chosen_by (chosen.Policy p) = some p
-chosen_by chosen.Unknown = none
-
-abbrev pub PolicyIs : (kind n limit : ℕ) → Chosen → Type 0
-PolicyIs kind n limit r = chosen_by r ≡ policy_of kind n limit
 
 -- an unknown kind grows nothing
 abbrev pub grown_by : Option Policy → (size window : ℕ) → Option ℕ
@@ -63,8 +45,7 @@ number_of (wrote n) = 0
 number_of (refuses number values) = number
 
 abbrev pub first_of : List ℕ → ℕ
-first_of [] = 0
-first_of (v ∷ vs) = v
+first_of values = get_or values 0 0
 
 abbrev pub length_of : Answer → ℕ
 length_of (wrote n) = n
@@ -82,8 +63,13 @@ tells number len exit = record { number = number; len = len; out = exit }
 abbrev pub told : Left → Told
 told l = tells (number_of l.answer) (length_of l.answer) l.out
 
-abbrev pub ToldBy : Wrote → (number len : ℕ) → Type 0
-ToldBy r number len = (exit : List ℕ) → tells number len exit ≡ told (left r exit)
+-- the same of an answer of the code, by the number and the need of its refusals; the output is not touched
+abbrev pub told_by : {E : Type 0} → (number need : E → ℕ) → Result ℕ E → (exit : List ℕ) → Told
+told_by number need (Ok n) exit = tells 0 n exit
+told_by number need (Err e) exit = tells (number e) (need e) exit
+
+abbrev pub ToldBy : {E : Type 0} → (number_of need_of : E → ℕ) → Result ℕ E → (number len : ℕ) → Type 0
+ToldBy number_of need_of r number len = (exit : List ℕ) → tells number len exit ≡ told_by number_of need_of r exit
 
 -- the promises of the writers
 abbrev pub WriteHeadIs : (head out : List ℕ) → (number len : ℕ) → (exit : List ℕ) → Type 0
@@ -107,10 +93,7 @@ WritePartsIs id with desc seq out number len exit = tells number len exit ≡ to
 abbrev pub WriteWrapIs : (id : List ℕ) → Bool → (desc seq : List ℕ) (wrap : ℕ) (out : List ℕ) → (number len : ℕ) → (exit : List ℕ) → Type 0
 WriteWrapIs id with desc seq wrap out number len exit = tells number len exit ≡ told (wrapped wrap (wrap_text id (described with desc) seq wrap) out)
 
--- the writers of a record in bytes, whose answers have more cases: what each says is told in the same way
-abbrev pub RecordToldBy : Rewrote → (number len : ℕ) → Type 0
-RecordToldBy r number len = (exit : List ℕ) → tells number len exit ≡ told (rewrites.left r exit)
-
+-- those of a record in bytes, whose refusals are more
 abbrev pub WriteWrapSeqIterIs : (bytes : List ℕ) (start : ℕ) (ends : List ℕ) (wrap : ℕ) (out : List ℕ) → (number len : ℕ) → (exit : List ℕ) → Type 0
 WriteWrapSeqIterIs bytes start ends wrap out number len exit = tells number len exit ≡ told (iterated_in bytes start ends wrap out)
 

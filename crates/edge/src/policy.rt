@@ -1,34 +1,12 @@
 // Growth and the setup test. A policy comes as the number of its kind with n and limit beside it.
-ghost use Rattle.edge.specs.Edge.{PolicyIs, GrowIs, SetupIs};
+ghost use Rattle.edge.specs.Edge.{GrowIs, SetupIs};
 
-use growth::{Growth, Policy};
-use reader::Reader;
-
-// The policy of a kind, if there is one.
-#[derive(Clone, Copy)]
-pub(crate) enum Chosen {
-    Policy(Policy),
-    Unknown,
-}
-
-fn policy_of(kind: u64, n: usize, limit: usize) -> Chosen
-    ensures { PolicyIs kind n limit result }
-{
-    if kind == 0 {
-        return Chosen::Policy(Policy::StdPolicy);
-    }
-    if kind == 1 {
-        return Chosen::Policy(Policy::DoubleUntil(n));
-    }
-    if kind == 2 {
-        return Chosen::Policy(Policy::DoubleUntilLimited { until: n, limit });
-    }
-    Chosen::Unknown
-}
+use growth::Policy;
+use reader::{Reader, SetupError};
+use refusal::Refusal;
 
 // Whether the policy has a capacity after `size` in a window of `window` bytes. It stands in `next`, which else is 0.
-#[unsafe(no_mangle)]
-pub extern "C" fn larizemba_grow_to(
+pub fn larizemba_grow_to(
     kind: u64,
     n: usize,
     limit: usize,
@@ -38,20 +16,15 @@ pub extern "C" fn larizemba_grow_to(
 ) -> bool
     ensures { GrowIs kind n limit size window result next.new }
 {
-    *next = 0;
-    let Chosen::Policy(policy) = policy_of(kind, n, limit) else {
-        return false;
-    };
-    let Growth::To(to) = policy.grow_to(size, window) else {
-        return false;
-    };
-    *next = to;
-    true
+    let grown = Policy::of_kind(kind, n, limit).and_then(|policy| policy.grow_to(size, window));
+    *next = grown.unwrap_or(0);
+    grown.is_some()
 }
 
-// 0 where a reader of this capacity and policy can be made over a window of `window` bytes and a table of `slots` ends, else 1.
-#[unsafe(no_mangle)]
-pub extern "C" fn larizemba_setup_check(
+// 0 where a reader of this capacity and policy can be made over a window of `window` bytes and a table of `slots` ends,
+// else 1.
+#[tactic(auto, unfolding(reader::specs::Calls::setup_of, reader::specs::Calls::setup_refused))]
+pub fn larizemba_setup_check(
     capacity: usize,
     kind: u64,
     n: usize,
@@ -61,14 +34,11 @@ pub extern "C" fn larizemba_setup_check(
 ) -> u32
     ensures { SetupIs capacity kind n limit window slots result }
 {
-    let Chosen::Policy(_) = policy_of(kind, n, limit) else {
-        return 1;
-    };
-    if capacity < Reader::MIN || window < capacity {
-        return 1;
+    if Policy::of_kind(kind, n, limit).is_none() {
+        return SetupError.number();
     }
-    if 2147483648 < window || slots == 0 {
-        return 1;
+    if capacity < Reader::MIN || window < capacity || 1 << 31 < window || slots == 0 {
+        return SetupError.number();
     }
     0
 }

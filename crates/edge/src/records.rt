@@ -1,39 +1,12 @@
-// The writers of a record that stands in bytes, given by the place of its `>` and its line ends, the head's end first. They answer as the other
-// writers do, and besides 11 where an end that they use is not rising between `start` and the bytes' end, or there is none.
-ghost use Rattle.edge.specs.Edge.{RecordToldBy, WriteUnchangedIs, WriteWrapSeqIterIs};
+// The writers of a record that stands in bytes, given by the place of its `>` and its line ends, the head's end first.
+// They answer as the other writers do, and besides 11 where an end that they use is not rising between `start` and the
+// bytes' end, or there is none.
+ghost use Rattle.edge.specs.Edge.{WriteUnchangedIs, WriteWrapSeqIterIs};
 
-use rewrite::Rewrote;
+use crate::tell::tell;
+use view::Record;
 
-// Such a writer's answer as a number and a length. 7 is told to no caller: it is the answer of a reader that has no record.
-fn tell_record(answer: Rewrote, len: &mut usize) -> u32
-    ensures { RecordToldBy answer result len.new }
-{
-    match answer {
-        Rewrote::Done(n) => {
-            *len = n;
-            0
-        }
-        Rewrote::NoRecord => {
-            *len = 0;
-            7
-        }
-        Rewrote::Wrap => {
-            *len = 0;
-            10
-        }
-        Rewrote::Room(need) => {
-            *len = need;
-            9
-        }
-        Rewrote::State => {
-            *len = 0;
-            11
-        }
-    }
-}
-
-#[unsafe(no_mangle)]
-pub extern "C" fn larizemba_write_wrap_seq_iter(
+pub fn larizemba_write_wrap_seq_iter(
     bytes: &[u8],
     start: usize,
     ends: &[usize],
@@ -43,12 +16,11 @@ pub extern "C" fn larizemba_write_wrap_seq_iter(
 ) -> u32
     ensures { WriteWrapSeqIterIs bytes.now start ends.now wrap out.old result len.new out.new }
 {
-    let answer = rewrite::write_wrap_seq_iter(bytes, start, ends, wrap, out);
-    tell_record(answer, len)
+    let record = Record { bytes, start, ends };
+    tell(rewrite::write_wrap_seq_iter(record, wrap, out), len)
 }
 
-#[unsafe(no_mangle)]
-pub extern "C" fn larizemba_write_unchanged(
+pub fn larizemba_write_unchanged(
     bytes: &[u8],
     start: usize,
     ends: &[usize],
@@ -57,6 +29,6 @@ pub extern "C" fn larizemba_write_unchanged(
 ) -> u32
     ensures { WriteUnchangedIs bytes.now start ends.now out.old result len.new out.new }
 {
-    let answer = rewrite::write_unchanged_in(bytes, start, ends, out);
-    tell_record(answer, len)
+    let record = Record { bytes, start, ends };
+    tell(rewrite::write_unchanged_in(record, out), len)
 }

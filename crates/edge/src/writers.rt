@@ -1,39 +1,18 @@
-// The writers. Each fills the front of `out` and answers 0, or a refusal's number and leaves `out` as it was: 9 where `out` is too short, 10 for a
-// width 0. `len` is then the length written, the need of 9, or 0.
-ghost use Rattle.edge.specs.Edge.{ToldBy, WriteHeadIs, WriteIdDescIs, WriteSeqIs, WriteWrapSeqIs, WriteToIs, WritePartsIs, WriteWrapIs};
+// The writers. Each fills the front of `out` and answers 0, or a refusal's number and leaves `out` as it was: 9 where
+// `out` is too short, 10 for a width 0. `len` is then the length written, the need of 9, or 0. A description comes as a
+// flag and a slice, and what is written as slices of their own, since C calls them so.
+ghost use Rattle.edge.specs.Edge.{WriteHeadIs, WriteIdDescIs, WriteSeqIs, WriteWrapSeqIs};
+ghost use Rattle.edge.specs.Edge.{WriteToIs, WritePartsIs, WriteWrapIs};
 
-use write::Wrote;
+use crate::tell::tell;
 
-// A writer's answer as a number and a length.
-fn tell(answer: Wrote, len: &mut usize) -> u32
-    ensures { ToldBy answer result len.new }
-{
-    match answer {
-        Wrote::Done(n) => {
-            *len = n;
-            0
-        }
-        Wrote::Wrap => {
-            *len = 0;
-            10
-        }
-        Wrote::Room(need) => {
-            *len = need;
-            9
-        }
-    }
-}
-
-#[unsafe(no_mangle)]
-pub extern "C" fn larizemba_write_head(head: &[u8], len: &mut usize, out: &mut [u8]) -> u32
+pub fn larizemba_write_head(head: &[u8], len: &mut usize, out: &mut [u8]) -> u32
     ensures { WriteHeadIs head.now out.old result len.new out.new }
 {
-    let answer = write::write_head(head, out);
-    tell(answer, len)
+    tell(write::write_head(head, out), len)
 }
 
-#[unsafe(no_mangle)]
-pub extern "C" fn larizemba_write_id_desc(
+pub fn larizemba_write_id_desc(
     id: &[u8],
     with_desc: bool,
     desc: &[u8],
@@ -42,46 +21,31 @@ pub extern "C" fn larizemba_write_id_desc(
 ) -> u32
     ensures { WriteIdDescIs id.now with_desc desc.now out.old result len.new out.new }
 {
-    let answer = write::write_id_desc(id, with_desc, desc, out);
-    tell(answer, len)
+    tell(
+        write::write_id_desc(id, with_desc.then_some(desc), out),
+        len,
+    )
 }
 
-#[unsafe(no_mangle)]
-pub extern "C" fn larizemba_write_seq(seq: &[u8], len: &mut usize, out: &mut [u8]) -> u32
+pub fn larizemba_write_seq(seq: &[u8], len: &mut usize, out: &mut [u8]) -> u32
     ensures { WriteSeqIs seq.now out.old result len.new out.new }
 {
-    let answer = write::write_seq(seq, out);
-    tell(answer, len)
+    tell(write::write_seq(seq, out), len)
 }
 
-#[unsafe(no_mangle)]
-pub extern "C" fn larizemba_write_wrap_seq(
-    seq: &[u8],
-    wrap: usize,
-    len: &mut usize,
-    out: &mut [u8],
-) -> u32
+pub fn larizemba_write_wrap_seq(seq: &[u8], wrap: usize, len: &mut usize, out: &mut [u8]) -> u32
     ensures { WriteWrapSeqIs seq.now wrap out.old result len.new out.new }
 {
-    let answer = write::write_wrap_seq(seq, wrap, out);
-    tell(answer, len)
+    tell(write::write_wrap_seq(seq, wrap, out), len)
 }
 
-#[unsafe(no_mangle)]
-pub extern "C" fn larizemba_write_to(
-    head: &[u8],
-    seq: &[u8],
-    len: &mut usize,
-    out: &mut [u8],
-) -> u32
+pub fn larizemba_write_to(head: &[u8], seq: &[u8], len: &mut usize, out: &mut [u8]) -> u32
     ensures { WriteToIs head.now seq.now out.old result len.new out.new }
 {
-    let answer = write::write_to(head, seq, out);
-    tell(answer, len)
+    tell(write::write_to(head, seq, out), len)
 }
 
-#[unsafe(no_mangle)]
-pub extern "C" fn larizemba_write_parts(
+pub fn larizemba_write_parts(
     id: &[u8],
     with_desc: bool,
     desc: &[u8],
@@ -91,12 +55,13 @@ pub extern "C" fn larizemba_write_parts(
 ) -> u32
     ensures { WritePartsIs id.now with_desc desc.now seq.now out.old result len.new out.new }
 {
-    let answer = write::write_parts(id, with_desc, desc, seq, out);
-    tell(answer, len)
+    tell(
+        write::write_parts(id, with_desc.then_some(desc), seq, out),
+        len,
+    )
 }
 
-#[unsafe(no_mangle)]
-pub extern "C" fn larizemba_write_wrap(
+pub fn larizemba_write_wrap(
     id: &[u8],
     with_desc: bool,
     desc: &[u8],
@@ -107,6 +72,8 @@ pub extern "C" fn larizemba_write_wrap(
 ) -> u32
     ensures { WriteWrapIs id.now with_desc desc.now seq.now wrap out.old result len.new out.new }
 {
-    let answer = write::write_wrap(id, with_desc, desc, seq, wrap, out);
-    tell(answer, len)
+    tell(
+        write::write_wrap(id, with_desc.then_some(desc), seq, wrap, out),
+        len,
+    )
 }

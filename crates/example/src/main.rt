@@ -2,84 +2,61 @@
 #![tactic(auto)]
 
 use growth::Policy;
-use reader::{Answer, Reader, Reported, Setup};
-use std::io;
+use reader::{Answer, Reader};
+use refusal::Refusal;
+use std::error::Error;
 use std::io::{ErrorKind, Read};
+use std::{fmt, io};
 use window::Ask;
 
-// Setup: the reader owns no memory. It is lent a window for bytes of the input and a table for the line ends of one record.
+// The reader owns no memory. It is lent a window for bytes of the input and a table for the line ends of one record.
 fn main(rt: HostRuntime) {
     let mut window = [0u8; 65536];
     let mut ends = [0usize; 4096];
     let mut scratch = [0u8; 65536];
-    let Setup::Made(reader) = Reader::new(Reader::DEFAULT, Policy::StdPolicy, &window, &ends) else {
-        tell(&rt, "refusal ", 1);
-        return;
-    };
     let mut input = rt.stdin();
-    run(
-        &rt,
-        &mut input,
-        reader,
-        &mut window,
-        &mut ends,
-        &mut scratch,
-    );
+    if let Err(stop) = run(&rt, &mut input, &mut window, &mut ends, &mut scratch) {
+        let _ = eprintln!(rt; "{stop}");
+    }
 }
 
-// The loop: a read answers a record, an ask for bytes, the end, or a refusal. It has to end, so the turns are counted.
+// Setup, and the loop: a read answers a record, an ask for bytes, the end, or a refusal. It has to end, so the turns
+// are counted.
 fn run(
-    rt: &(impl Print + Eprint),
+    rt: &impl Print,
     input: &mut impl Read,
-    first: Reader,
     window: &mut [u8],
     ends: &mut [usize],
     scratch: &mut [u8],
-) {
-    let mut reader = first;
+) -> Result<(), Stop> {
+    let mut reader = Reader::new(Reader::DEFAULT, Policy::StdPolicy, window, ends)?;
     for _ in 0..u64::MAX {
         let next = reader.next(window, ends);
         reader = next.reader;
         let answer = next.answer;
         if let Answer::Ask(ask) = answer {
-            let got = match fill(input, ask, window) {
-                Ok(got) => got,
-                Err(e) => {
-                    let _ = eprintln!(rt; "example: read: {e}");
-                    return;
-                }
-            };
-            let Reported::Taken(on) = reader.report(got) else {
-                tell(rt, "refusal ", 6);
-                return;
-            };
-            reader = on;
+            let count = fill(input, ask, window).map_err(Stop::Read)?;
+            let reported = reader.report(count);
+            reported.answer?;
+            reader = reported.reader;
             continue;
         }
         let Answer::Record(_) = answer else {
-            close(rt, answer);
-            return;
+            return close(answer);
         };
-        if let Err(e) = show(rt, reader, window, ends, scratch) {
-            let _ = eprintln!(rt; "example: write: {e}");
-            return;
-        }
+        show(rt, reader, window, ends, scratch).map_err(Stop::Write)?;
     }
+    Ok(())
 }
 
 // One read of the input into the part of the window that is asked for. Fewer bytes than there is room for are fine; 0
 // say that the input has ended.
 fn fill(input: &mut impl Read, ask: Ask, window: &mut [u8]) -> io::Result<usize> {
-    let place = ask.place;
-    let from = place.0;
-    let room = ask.room;
-    if window.len() < from {
-        return Err(io::Error::from(ErrorKind::InvalidInput));
-    }
-    if window.len() - from < room {
-        return Err(io::Error::from(ErrorKind::InvalidInput));
-    }
-    input.read(&mut window[from..from + room])
+    let behind = window
+        .get_mut(ask.place.0..)
+        .ok_or(ErrorKind::InvalidInput)?;
+    let part = behind.get_mut(..ask.room).ok_or(ErrorKind::InvalidInput)?;
+    input.read(part)
 }
 
 // The views: a part of the window, or lines joined in the scratch.
@@ -98,20 +75,46 @@ fn show(
     rt.write_all(b"\n")
 }
 
-// What came instead of a record: the end, or a refusal, of which the place is known.
-fn close(rt: &impl Eprint, answer: Answer) {
+// What came instead of a record: the end, or a refusal, of which the line is known.
+fn close(answer: Answer) -> Result<(), Stop> {
     match answer {
-        Answer::Ask(_) => {}
-        Answer::Record(_) => {}
-        Answer::End => {}
-        Answer::Start { line, byte: _ } => tell(rt, "no record begins here: line ", line),
-        Answer::Window(place) => tell(rt, "too long for the window: line ", place.line),
-        Answer::Table(place) => tell(rt, "too many lines for the table: line ", place.line),
-        Answer::Place => tell(rt, "refusal ", 5),
-        Answer::State => tell(rt, "refusal ", 11),
+        Answer::Ask(_) | Answer::Record(_) | Answer::End => Ok(()),
+        Answer::Start { line, byte: _ } => Err(Stop::Start(line)),
+        Answer::Window(place) => Err(Stop::Window(place.line)),
+        Answer::Table(place) => Err(Stop::Table(place.line)),
+        Answer::Place => Err(Stop::Refused(5)),
+        Answer::State => Err(Stop::Refused(11)),
     }
 }
 
-fn tell(rt: &impl Eprint, what: &str, number: u64) {
-    let _ = eprintln!(rt; "{what}{number}");
+// Why the loop stopped before the end: the input or the output failed, or a refusal, by its line or by its number.
+#[derive(Debug, Drop)]
+enum Stop {
+    Read(io::Error),
+    Write(io::Error),
+    Start(u64),
+    Window(u64),
+    Table(u64),
+    Refused(u32),
 }
+
+impl<E: Refusal> From<E> for Stop {
+    fn from(refusal: E) -> Stop {
+        Stop::Refused(refusal.number())
+    }
+}
+
+impl fmt::Display for Stop {
+    fn fmt<W: fmt::Write>(&self, f: &mut fmt::Formatter<W>) -> fmt::Result {
+        match self {
+            Stop::Read(e) => write!(f, "example: read: {e}"),
+            Stop::Write(e) => write!(f, "example: write: {e}"),
+            Stop::Start(line) => write!(f, "no record begins here: line {line}"),
+            Stop::Window(line) => write!(f, "too long for the window: line {line}"),
+            Stop::Table(line) => write!(f, "too many lines for the table: line {line}"),
+            Stop::Refused(number) => write!(f, "refusal {number}"),
+        }
+    }
+}
+
+impl Error for Stop {}

@@ -1,12 +1,11 @@
 -- Growth (01): `StdPolicy` doubles below 8,388,608 and adds 8,388,608 from there; `DoubleUntil(n)` doubles below n, else adds n;
 -- `DoubleUntilLimited` does that and refuses above its limit. Sums are exact; a size above the window's length, or not above the present
 -- one, is no growth. Assumes nothing.
-use Rattle.std.specs.Prelude.{ℕ, ◌+◌, cond, ◌&&◌, ◌≡◌, ltb, leb}
+use Rattle.std.specs.Prelude.{ℕ, ◌+◌, cond, ◌&&◌, ◌≡◌, eqb, ltb, leb, Some, None}
+use Rattle.std.specs.Prelude as rattle
 use Rattle.std.proofs.Math.Option.{Option, none, some}
 use Rattle.growth.specs.declared.Policy.{Policy}
 use Rattle.growth.specs.declared.Policy.TheVariants.{StdPolicy, DoubleUntil, DoubleUntilLimited}
-use Rattle.growth.specs.declared.Growth.{Growth}
-use Rattle.growth.specs.declared.Growth.TheVariants.{To, No}
 
 -- doubles below n, else adds n
 unfoldable pub doubled : (n size : ℕ) → ℕ
@@ -28,11 +27,19 @@ unfoldable pub grown : Policy → (size window : ℕ) → Option ℕ
 unfolding named taken
 grown p size window = taken size window (named p size)
 
--- what an answer says
-abbrev pub says : Growth → Option ℕ
-says (To n) = some n
-says No = none
+-- the policy of a kind: 0, 1 and 2 in 01's order, and none else
+unfoldable pub policy_of : (kind n limit : ℕ) → Option Policy
+policy_of kind n limit =
+    cond (eqb kind 0) (some StdPolicy) (cond (eqb kind 1) (some (DoubleUntil n)) (cond (eqb kind 2) (some (DoubleUntilLimited n limit)) none))
 
--- the promise of `grow_to`
-abbrev pub GrowTo : Policy → (size window : ℕ) → Growth → Type 0
+-- what an answer of the code says: its value, or none
+abbrev pub says : {A : Type 0} → rattle.Option A → Option A
+says (Some a) = some a
+says None = none
+
+-- the promises of `grow_to` and of `of_kind`
+abbrev pub GrowTo : Policy → (size window : ℕ) → rattle.Option ℕ → Type 0
 GrowTo p size window r = says r ≡ grown p size window
+
+abbrev pub OfKind : (kind n limit : ℕ) → rattle.Option Policy → Type 0
+OfKind kind n limit r = says r ≡ policy_of kind n limit

@@ -1,64 +1,37 @@
 // Serving an ask: one read of standard input into the room that is asked for, and the report.
-use reader::{Reader, Reported};
+use crate::failure::Failure;
+use reader::Reader;
 use std::io;
 use std::io::{ErrorKind, Read};
 use window::Ask;
 
-// What came of an ask: the reader goes on, or it cannot, and the reason was told.
-#[derive(Clone, Copy)]
-pub(crate) enum Brought {
-    On(Reader),
-    Failed,
-}
-
 pub(crate) fn bring(
-    rt: &impl Eprint,
     input: &mut impl Read,
     reader: Reader,
     ask: Ask,
     window: &mut [u8],
-) -> Brought {
-    let place = ask.place;
-    let count = match read_into(input, window, place.0, ask.room) {
-        Ok(count) => count,
-        Err(e) => {
-            let _ = eprintln!(rt; "list: read: {e}");
-            return Brought::Failed;
-        }
-    };
-    let Reported::Taken(on) = reader.report(count) else {
-        let _ = eprintln!(rt; "list: more than 2^62 bytes");
-        return Brought::Failed;
-    };
-    Brought::On(on)
+) -> Result<Reader, Failure> {
+    let count = read_asked(input, ask, window).map_err(Failure::Read)?;
+    let reported = reader.report(count);
+    reported.answer.map_err(|_| Failure::Bytes)?;
+    Ok(reported.reader)
 }
 
-// One read into a part of the window.
-fn read_into(
-    input: &mut impl Read,
-    window: &mut [u8],
-    place: usize,
-    room: usize,
-) -> io::Result<usize> {
-    if window.len() < place {
-        return Err(io::Error::from(ErrorKind::InvalidInput));
-    }
-    if window.len() - place < room {
-        return Err(io::Error::from(ErrorKind::InvalidInput));
-    }
-    read(input, &mut window[place..place + room])
+// One read into the part of the window that is asked for.
+fn read_asked(input: &mut impl Read, ask: Ask, window: &mut [u8]) -> io::Result<usize> {
+    let behind = window
+        .get_mut(ask.place.0..)
+        .ok_or(ErrorKind::InvalidInput)?;
+    let part = behind.get_mut(..ask.room).ok_or(ErrorKind::InvalidInput)?;
+    read(input, part)
 }
 
 // One read, tried again when a signal interrupts it.
 fn read(input: &mut impl Read, part: &mut [u8]) -> io::Result<usize> {
     for _ in 0..u64::MAX {
         match input.read(part) {
-            Ok(count) => return Ok(count),
-            Err(e) => {
-                if e.kind() != ErrorKind::Interrupted {
-                    return Err(e);
-                }
-            }
+            Err(e) if e.kind() == ErrorKind::Interrupted => {}
+            answer => return answer,
         }
     }
     Err(io::Error::from(ErrorKind::Interrupted))

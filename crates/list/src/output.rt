@@ -1,115 +1,53 @@
-// Output: rows are kept in a lent buffer, which is written when the next one does not fit, and at the end.
-use reader::{Answer, Position, Reader};
-use rows::{Told, put_last, put_record};
+// Output: rows are kept in a buffer, which is written when the next one does not fit, and at the end.
+use crate::failure::Failure;
+use rows::Room;
+use std::io;
 use std::io::ErrorKind;
 
-// How much of the buffer is taken; or the output failed, and the reason was told.
-#[derive(Clone, Copy)]
-pub(crate) enum Kept {
-    At(usize),
-    Failed,
+// The longest row has fewer than 65,600 bytes: an id as long as a record may be, three numbers and four bytes. Twice
+// the window holds it.
+pub(crate) const LENGTH: usize = 131072;
+
+// The buffer, and how much of it is taken.
+#[derive(Drop)]
+pub(crate) struct Output {
+    pub(crate) buffer: [u8; LENGTH],
+    pub(crate) at: usize,
 }
 
-// The row of the current record behind those that are kept.
-pub(crate) fn keep(
-    rt: &(impl Print + Eprint),
-    reader: Reader,
-    place: Position,
-    window: &[u8],
-    ends: &[usize],
-    out: &mut [u8],
-    at: usize,
-) -> Kept {
-    if let Told::Done(behind) = put_record(reader, place, window, ends, out, at) {
-        return Kept::At(behind);
-    }
-    if !flush(rt, out, at) {
-        return Kept::Failed;
-    }
-    let Told::Done(behind) = put_record(reader, place, window, ends, out, 0) else {
-        let _ = eprintln!(rt; "list: a row is longer than the buffer");
-        return Kept::Failed;
-    };
-    Kept::At(behind)
-}
-
-// The last line, behind all rows; a refusal's place goes to standard error.
-pub(crate) fn finish(rt: &(impl Print + Eprint), answer: Answer, out: &mut [u8], at: usize) {
-    close(rt, answer, out, at);
-    tell(rt, answer);
-}
-
-fn close(rt: &(impl Print + Eprint), answer: Answer, out: &mut [u8], at: usize) {
-    if let Told::Done(behind) = put_last(answer, out, at) {
-        flush(rt, out, behind);
-        return;
-    }
-    if !flush(rt, out, at) {
-        return;
-    }
-    if let Told::Done(behind) = put_last(answer, out, 0) {
-        flush(rt, out, behind);
-    }
-}
-
-// Writes the first `at` bytes of the buffer.
-pub(crate) fn flush(rt: &(impl Print + Eprint), out: &[u8], at: usize) -> bool {
-    if out.len() < at {
-        return false;
-    }
-    write(rt, &out[..at])
-}
-
-// Writes all, or tells why not. A write that a signal interrupts is tried again.
-fn write(rt: &(impl Print + Eprint), text: &[u8]) -> bool {
-    let mut done = 0;
-    for _ in 0..u64::MAX {
-        if text.len() <= done {
-            return true;
+impl Output {
+    // Keeps a row behind those that are kept. One that does not fit there is put into the buffer once that is written.
+    pub(crate) fn keep<F: Fn(&mut [u8], usize) -> Result<usize, Room>>(
+        &mut self,
+        rt: &impl Print,
+        put: F,
+    ) -> Result<(), Failure>
+        requires { F.IsAlwaysCallable put }
+    {
+        if let Ok(at) = put(&mut self.buffer, self.at) {
+            self.at = at;
+            return Ok(());
         }
-        match rt.write_some(&text[done..]) {
-            Ok(0) => {
-                let _ = eprintln!(rt; "list: write: nothing was taken");
-                return false;
+        self.flush(rt)?;
+        self.at = put(&mut self.buffer, 0)?;
+        Ok(())
+    }
+
+    // Writes what is kept, which is gone then, even where that fails. A write that a signal interrupts is tried again.
+    pub(crate) fn flush(&mut self, rt: &impl Print) -> Result<(), Failure> {
+        let mut rows = self.buffer.get(..self.at).unwrap_or(&[]);
+        self.at = 0;
+        for _ in 0..u64::MAX {
+            if rows.is_empty() {
+                return Ok(());
             }
-            Ok(put) => done += put,
-            Err(e) => {
-                if e.kind() != ErrorKind::Interrupted {
-                    let _ = eprintln!(rt; "list: write: {e}");
-                    return false;
-                }
+            match rt.write_some(rows) {
+                Ok(0) => return Err(Failure::Nothing),
+                Ok(n) => rows = &rows[n..],
+                Err(e) if e.kind() == ErrorKind::Interrupted => {}
+                Err(e) => return Err(Failure::Write(e)),
             }
         }
+        Err(Failure::Write(io::Error::from(ErrorKind::Interrupted)))
     }
-    false
-}
-
-// Where a refusal stands, and why.
-fn tell(rt: &impl Eprint, answer: Answer) {
-    match answer {
-        Answer::Ask(_) => {}
-        Answer::Record(_) => {}
-        Answer::End => {}
-        Answer::Start { line, byte } => tell_start(rt, line, byte),
-        Answer::Window(place) => tell_at(rt, place, "the record is longer than the window"),
-        Answer::Table(place) => tell_at(rt, place, "the record has more lines than the table"),
-        Answer::Place => tell_text(rt, "list: no record at the place sought"),
-        Answer::State => tell_text(rt, "list: the reader's state is not one of its own"),
-    }
-}
-
-fn tell_text(rt: &impl Eprint, text: &str) {
-    let _ = eprintln!(rt; "{text}");
-}
-
-fn tell_start(rt: &impl Eprint, line: u64, byte: u8) {
-    let _ = eprintln!(rt;
-        "list: line {line}: the first record must begin with `>`, and not with byte {byte}"
-    );
-}
-
-fn tell_at(rt: &impl Eprint, place: Position, text: &str) {
-    let line = place.line;
-    let byte = place.byte.0;
-    let _ = eprintln!(rt; "list: line {line}, byte {byte}: {text}");
 }

@@ -1,19 +1,20 @@
--- What setup makes and calls leave passes refusal 11: an invariant that setup gives and that reads, reports and seeks keep, whatever their
--- arguments. A record's ends rise behind its `>`, and none stands where a search goes on. Assumes nothing.
+-- What setup makes and calls leave passes refusal 11: an invariant that setup gives and that reads, reports and seeks
+-- keep, whatever their arguments. A record's ends rise behind its `>`, and none stands where a search goes on.
+-- Assumes nothing.
 use Prim.Native.Nat.{ℕ, ◌+◌, ◌-◌, ◌≤◌, ◌<◌, max, min}
 use native.Mathlib.Decide.{dec_le}
-use native.Mathlib.Nat.{le_refl, le_trans, le_of_eq, eq-or-lt_of_le, min-eq_left}
+use native.Mathlib.Nat.{le_refl, le_trans, le_of_eq, min-eq_left}
 use native.Mathlib.Numerals.{add-one}
 use native.Mathlib.Omega.{arith}
 use mathlib.Core.Bool.{Bool, true, false, not, ◌&&◌, ◌||◌, false≢true}
 use mathlib.Core.List.{List, [], ◌∷◌, ◌++◌, map}
-use mathlib.Core.Logic.{⊎_elim}
 use mathlib.Core.Option.{Option, none, some}
 use mathlib.Core.Path.{◌≡◌, refl, sym, ap, subst, ◌∙◌}
 use lib.ListN.{length, get_or, take, drop, set, length-set}
 use lib.Seq.{length-take-le, take-suc-set}
 use lib.Dec.{eqb, ltb}
 use borrow.Author.Tests.{not-true, eqb-true, eqb-false, ltb-true}
+use Rattle.std.proofs.lemmas.Bool.Decides.{nat_tests}
 use Rattle.scan.specs.Move.{moved_ends}
 use Rattle.scan.specs.Search.{Recorded, Lead, lead_at}
 use Rattle.scan.specs.declared.ends.Stop.{Stop}
@@ -54,13 +55,14 @@ EndsBelow hi m e = Rises (m.start.0 + 1) (take m.count e) hi
 abbrev pub goes_on : Mark → ℕ
 goes_on m = max m.search.0 (m.start.0 + 1)
 
--- A record that is still searched has no end where its search goes on. `own` says that the table holds what calls left there; else only the
--- number of the ends is known.
+-- A record that is still searched has no end where its search goes on. `own` says that the table holds what calls
+-- left there; else only the number of the ends is known.
 pub record Behind (own : Bool) (m : Mark) (e : List ℕ) : Type 0 where
   pub count_behind : m.start.0 + 1 + m.count ≤ goes_on m
   pub ends_behind : own ≡ true → EndsBelow (goes_on m) m e
 
--- What setup gives and every call keeps. An end stands at the search's place only where the end of the input closed the record.
+-- What setup gives and every call keeps. An end stands at the search's place only where the end of the input closed
+-- the record.
 pub record Kept (own : Bool) (r : Reader) (w e : List ℕ) : Type 0 where
   pub is_good : Good r w e
   pub ends-rise : own ≡ true → EndsBelow (r.mark.search.0 + 1) r.mark e
@@ -68,21 +70,11 @@ pub record Kept (own : Bool) (r : Reader) (w e : List ℕ) : Type 0 where
 
 -- a window that is not ready has room
 unready : (f : Fill) → Sound f → ready f ≡ false → f.filled < f.capacity
-unready f s t = go f.told (eqb f.filled f.capacity) refl t
-  where
-    fits : f.filled ≤ f.capacity
-    fits = s.filled_fits
-
-    go : (t u : Bool) → eqb f.filled f.capacity ≡ u → (t || u) ≡ false → f.filled < f.capacity
-    go true u q no' = absurd (false≢true (sym no'))
-    go false true q no' = absurd (false≢true (sym no'))
-    go false false q no' = let other = eqb-false f.filled f.capacity q in ⊎_elim (λ same. absurd (other same)) (λ less. less) (eq-or-lt_of_le fits)
+unready f s t = let h = s.filled_fits in grind (arith, nat_tests)
 
 -- a place that is not the end of the filled bytes where that is the end of the input
 pub not-over : (told : Bool) (at filled : ℕ) → told ≡ true → (told && eqb at filled) ≡ false → at ≤ filled → at < filled
-not-over told at filled is t h =
-    let other = eqb-false at filled (sym (ap (λ (u : Bool). u && eqb at filled) is) ∙ t) in
-    ⊎_elim (λ same. absurd (other same)) (λ less. less) (eq-or-lt_of_le h)
+not-over told at filled is t h = grind (arith, nat_tests)
 
 -- a said refusal 11
 abbrev pub is_state : Said → Bool

@@ -1,4 +1,5 @@
--- A look and a record put back keep the invariant of Kept.antt, and a look at a reader that keeps it does not refuse the state. Assumes nothing.
+-- A look and a record put back keep the invariant of Kept.antt, and a look at a reader that keeps it does not refuse
+-- the state. Assumes nothing.
 use Prim.Native.Nat.{ℕ, ◌≤◌, ◌<◌}
 use native.Mathlib.Decide.{dec_le}
 use native.Mathlib.Nat.{le_trans}

@@ -1,9 +1,10 @@
--- What each step of a look comes to, by the tests that lead there: the definitions of Look.antt, clause by clause. Assumes nothing.
+-- What each step of a look comes to, by the tests that lead there: the definitions of Look.antt, clause by clause.
+-- Assumes nothing.
 use Prim.Native.Nat.{ℕ, ◌+◌, ◌≤◌, ◌<◌}
 use native.Mathlib.Numerals.{add-one}
 use mathlib.Core.Bool.{true, false, ◌&&◌}
 use mathlib.Core.List.{List}
-use mathlib.Core.Logic.{inl, inr}
+use mathlib.Core.Logic.{inr}
 use mathlib.Core.Path.{◌≡◌, sym, ap}
 use lib.ListN.{length, set}
 use lib.Dec.{eqb}
@@ -59,9 +60,6 @@ module _ (r : Reader) (w e : List ℕ) where
   unfolding look_of
   look-denied t = rw t
 
-  pub look-insane : sane r ≡ false → look_of r w e ≡ sees (denied 11) r e
-  look-insane t = look-denied (neither (sane r) (lent_as r (length w) (length e)) (inl t))
-
   pub look-unlent : lent_as r (length w) (length e) ≡ false → look_of r w e ≡ sees (denied 11) r e
   look-unlent t = look-denied (neither (sane r) (lent_as r (length w) (length e)) (inr t))
 
@@ -75,10 +73,6 @@ module _ (r : Reader) (w e : List ℕ) where
     look-behind p = rw (t, u, p)
 
 module _ (r : Reader) where
-  pub put-insane : sane r ≡ false → put_back_of r ≡ r
-  unfolding put_back_of
-  put-insane t = rw t
-
   pub put-none : sane r ≡ true → is_current r.phase ≡ false → put_back_of r ≡ r
   unfolding put_back_of
   put-none t u = rw (t, u)

@@ -1,4 +1,5 @@
--- No call refuses a state (11) that setup made and calls left, whatever their arguments: by the invariant of Kept.antt. Assumes nothing.
+-- No call refuses a state (11) that setup made and calls left, whatever their arguments: by the invariant of
+-- Kept.antt. Assumes nothing.
 use Prim.Native.Nat.{ℕ}
 use mathlib.Core.Bool.{Bool, true, false, false≢true}
 use mathlib.Core.List.{List, []}
@@ -7,8 +8,10 @@ use mathlib.Core.Path.{◌≡◌, refl, sym, ap, subst, ◌∙◌}
 use lib.ListN.{length}
 use lib.Dec.{eqb}
 use borrow.Author.Tests.{eqb-true, eqb-false}
+use Rattle.std.proofs.Common.{arith}
+use Rattle.std.proofs.lemmas.Bool.Decides.{nat_tests}
 use Rattle.growth.specs.declared.Policy.{Policy}
-use Rattle.window.specs.Fill.{reported, unasked, holds, took, ended}
+use Rattle.window.specs.Fill.{reported, holds}
 use Rattle.window.specs.declared.fill.Fill.{Fill}
 use Rattle.reader.specs.declared.state.Phase.{Phase}
 use Rattle.reader.specs.declared.state.Phase.TheVariants as phase
@@ -24,8 +27,9 @@ use Rattle.reader.proofs.Made.{sane-made, sane-report, sane-seek}
 use Rattle.reader.proofs.Kept.{Kept, kept-begun, kept-sane, kept-rising, kept_read, read-not-state}
 use Rattle.reader.proofs.LookKept.{kept-look, look-not-state, kept-put-back}
 
--- A reader with its window and its table as calls left them: set up over them, then read, told of bytes, and sought, its next record looked at and
--- its current one put back, in any order and by any arguments, a read or a look over a window or a table of another length too. Between calls the caller may put any bytes into the window, and anything
+-- A reader with its window and its table as calls left them: set up over them, then read, told of bytes, and sought,
+-- its next record looked at and its current one put back, in any order and by any arguments, a read or a look over a
+-- window or a table of another length too. Between calls the caller may put any bytes into the window, and anything
 -- into the table where that is not the reader's own.
 pub data Calls (own : Bool) : Reader → (w e : List ℕ) → Type 0 where
   by_setup : (capacity : ℕ) (p : Policy) (r : Reader) (w e : List ℕ) → setup_of capacity p (length w) (length e) ≡ some r → Calls own r w e
@@ -47,8 +51,8 @@ pub data Calls (own : Bool) : Reader → (w e : List ℕ) → Type 0 where
       Calls own (look_of r w' e').reader w e
   by_put_back : (r : Reader) (w e : List ℕ) → Calls own r w e → Calls own (put_back_of r) w e
 
--- The reader passes the test, so no call over the lent lengths answers 11. A read also tests the ends, as views of the current record do: these
--- rise in a table that is the reader's own.
+-- The reader passes the test, so no call over the lent lengths answers 11. A read also tests the ends, as views of
+-- the current record do: these rise in a table that is the reader's own.
 pub record NeverState (own : Bool) (r : Reader) (w e : List ℕ) : Type 0 where
   pub is-sane : sane r ≡ true
   pub in_read : own ≡ true → (read_of r w e).said ≡ refuses 11 [] → ⊥
@@ -78,15 +82,7 @@ kept-made {own} capacity p r w e is = go (setup_refused capacity (length w) (len
 -- a report leaves the lent length
 lent-reported : (count : ℕ) (f g : Fill) → reported count f ≡ some g → g.lent ≡ f.lent
 unfolding reported
-lent-reported count f g is = go (unasked count f) refl (eqb count 0) refl
-  where
-    by : (o : Fill) → reported count f ≡ some o → o.lent ≡ f.lent → g.lent ≡ f.lent
-    by o e k = ap (λ (x : Fill). x.lent) (some-injective g o (sym is ∙ e)) ∙ k
-
-    go : (t : Bool) → unasked count f ≡ t → (u : Bool) → eqb count 0 ≡ u → g.lent ≡ f.lent
-    go true e u z = let no' : reported count f ≡ none = rw e in absurd (none-ne-some g (sym no' ∙ is))
-    go false e true z = by (ended f) (rw (e, z)) refl
-    go false e false z = by (took count f) (rw (e, z)) refl
+lent-reported count f g is = grind (arith, nat_tests)
 
 -- an answer 11, of each kind
 abbrev is_refused : Option ℕ → Bool

@@ -1,5 +1,6 @@
--- What each step of a read comes to, by the tests that lead there: the definitions of Read.antt, clause by clause. Assumes nothing.
-use Prim.Native.Nat.{ℕ, ◌+◌, ◌-◌, ◌≤◌, ◌<◌, max, min}
+-- What each step of a read comes to, by the tests that lead there: the definitions of Read.antt, clause by clause.
+-- Assumes nothing.
+use Prim.Native.Nat.{ℕ, ◌+◌, ◌≤◌, ◌<◌, max, min}
 use native.Mathlib.Omega.{arith}
 use native.Mathlib.Nat.{le_refl, le_of_eq}
 use native.Mathlib.Numerals.{add-one}
@@ -8,37 +9,24 @@ use mathlib.Core.Logic.{◌⊎◌, inl, inr}
 use mathlib.Core.List.{List, [], ◌∷◌}
 use mathlib.Core.Option.{Option, none, some, none-ne-some, some-injective}
 use mathlib.Core.Path.{◌≡◌, refl, sym, ap, ◌∙◌}
-use lib.ListN.{length, get_or, take, drop, set}
+use lib.ListN.{length, get_or, take, set}
 use lib.Seq.{length-take-le}
 use lib.Dec.{eqb, ltb}
 use borrow.Author.Tests.{lt-ltb, le-ltb, le-leb, lt-leb, eq-eqb, ne_eqb}
 use Rattle.scan.specs.Move.{moved_ends}
-use Rattle.scan.specs.Search.{Recorded, Search, Lead, searched}
+use Rattle.scan.specs.Search.{Recorded, Lead}
 use Rattle.scan.specs.declared.ends.Searched.{Searched}
 use Rattle.scan.proofs.SearchLaws.{search-found}
 use Rattle.scan.proofs.LeadLaws.{lead-led}
 use Rattle.scan.specs.declared.line.Blank.{Blank}
 use Rattle.scan.specs.declared.ends.Stop.TheVariants as stop
-use Rattle.window.specs.Fill.{most, ask_of, asking, slid, slid_window, widened_to, wider, of_capacity, ready}
-use Rattle.window.specs.declared.offset.InputOffset.{InputOffset}
-use Rattle.window.specs.declared.fill.Ask.{Ask}
+use Rattle.window.specs.Fill.{slid_window, widened_to, wider, of_capacity, ready}
 use Rattle.window.specs.declared.fill.Fill.{Fill}
-use Rattle.window.proofs.Laws.{input-fits-word, sound-slid}
 use Rattle.reader.specs.declared.state.Reader.{Reader}
-use Rattle.reader.specs.declared.state.Mark.{Mark}
-use Rattle.reader.specs.declared.state.Answer.TheVariants as answer
 use Rattle.reader.specs.declared.state.Phase.{Phase}
 use Rattle.reader.specs.declared.state.Phase.TheVariants as phase
-use Rattle.reader.specs.State.{Sane, Good, sane, lent_as, is_current, with_fill, with_mark, in_phase, mark_at, rising, ends_rise}
-use Rattle.reader.specs.Read.{asks, ends, refuses, said_by, Did, does, ask_for, asked, given, too_long, too_many, reached, moved_to_front, grows, makes_room, closed, stopped, searches, SearchIs, hunted, begins_at, passed, when_ready, behind, sought_at, searched_on, onward, led, led_to, lead_on, lead_found, lead_dropped, LeadIn, lasts, read_in, read_of}
-
--- an ask that is opened
-pub ask-opens : (r : Reader) (a : Ask) (f : Fill) → a ≡ ask_of r.fill → f ≡ asking true r.fill → r.fill.base.0 + r.fill.filled ≤ most
-    → (w e : List ℕ) → does (said_by (answer.Ask a)) (with_fill f r) w e ≡ asked r w e
-ask-opens r a f p q h w e =
-    (λ i. does (said_by (answer.Ask (p i))) (with_fill (q i) r) w e)
-    ∙ ap (λ (o : ℕ). does (asks r.fill.filled (r.fill.capacity - r.fill.filled) o) (with_fill (asking true r.fill) r) w e)
-    (ap (λ (o : InputOffset). o.0) (input-fits-word r.fill.base.0 r.fill.filled h))
+use Rattle.reader.specs.State.{Good, sane, lent_as, is_current, with_fill, in_phase, rising, ends_rise}
+use Rattle.reader.specs.Read.{ends, refuses, Did, does, ask_for, asked, given, too_long, too_many, reached, moved_to_front, grows, makes_room, closed, stopped, searches, SearchIs, hunted, begins_at, passed, when_ready, behind, sought_at, searched_on, onward, led, led_to, lead_on, lead_found, lead_dropped, LeadIn, lasts, read_in, read_of}
 
 module _ (r : Reader) (w e : List ℕ) where
   -- the end closes a record, with a slot or without
@@ -90,26 +78,6 @@ module _ (r : Reader) (w e : List ℕ) where
 
   pub filled-not : r.fill.told ≡ false → stopped stop.Filled r w e ≡ makes_room r w e
   filled-not t = rw t
-
-  -- a move as the code makes it
-  pub moved-with : 0 < r.mark.start.0 → {f : Fill} {w' e' : List ℕ} → f ≡ slid r.mark.start.0 r.fill → w' ≡ slid_window r.mark.start.0 r.fill w → e' ≡ moved_ends r.mark.count r.mark.start.0 e
-      → asked (with_fill f (with_mark (mark_at 0 (r.mark.search.0 - r.mark.start.0) r.mark.count r.mark.line) r)) w' e' ≡ makes_room r w e
-  moved-with h p q s =
-      (λ i. asked (with_fill (p i) (with_mark (mark_at 0 (r.mark.search.0 - r.mark.start.0) r.mark.count r.mark.line) r)) (q i) (s i))
-      ∙ sym (room-moves h)
-
--- an ask after a move or a growth is within the input
-pub room_fits : (r : Reader) → Sane r → (f : Fill) → f ≡ slid r.mark.start.0 r.fill → f.base.0 + f.filled ≤ most
-room_fits r s f p =
-    let h : r.mark.start.0 ≤ r.fill.filled = omega (arith, s.start_search, s.search_filled) in
-    rw (p ∙ sound-slid r.fill s.window_sound r.mark.start.0 h) (omega (arith, s.window_sound.input_fits))
-
-pub wider-fits : (r : Reader) → Sane r → (f : Fill) → some f ≡ wider (widened_to r.fill) r.fill → f.base.0 + f.filled ≤ most
-wider-fits r s f p = go (widened_to r.fill) p
-  where
-    go : (o : Option ℕ) → some f ≡ wider o r.fill → f.base.0 + f.filled ≤ most
-    go none q = absurd (none-ne-some f (sym q))
-    go (some c) q = rw (some-injective f (of_capacity c r.fill) q) s.window_sound.input_fits
 
 -- a search keeps what refusal 11 asks
 pub hunt-good : (r : Reader) (w e : List ℕ) → Good r w e → (s : Searched) (x : List ℕ) → SearchIs r w e s x → Good (reached s.at s.count r) w x
@@ -274,27 +242,11 @@ lead-in r w e g b p =
       decided = λ t. let h = d.decided t in omega arith;
     }
 
-pub lead-fits : (r : Reader) → Sane r → (b : Blank) → LeadIn b r → (f : Fill) → f ≡ slid b.at r.fill → f.base.0 + f.filled ≤ most
-lead-fits r s b k f p =
-    let h = k.at_filled in
-    rw (p ∙ sound-slid r.fill s.window_sound b.at k.at_filled) (omega (arith, s.window_sound.input_fits))
-
 -- a conjunction of tests that failed
 pub neither : (t u : Bool) → (t ≡ false) ⊎ (u ≡ false) → (t && u) ≡ false
 neither true u (inl e) = absurd (true≢false e)
 neither true u (inr e) = e
 neither false u e = refl
-
--- a search from the place that the definition names
-pub found_from : (r : Reader) (w e : List ℕ) (from : ℕ) → from ≡ min (max r.mark.search.0 (r.mark.start.0 + 1)) r.fill.filled
-    → (s : Searched) (x : List ℕ) → Search (take r.fill.filled w) from r.mark.count r.slots 62 e s x → SearchIs r w e s x
-found_from r w e from p s x q = q ∙ ap (λ (n : ℕ). searched 62 r.slots (drop n (take r.fill.filled w)) n r.mark.count e) p
-
--- the lead dropped as the code drops it
-pub lead-with : (r : Reader) (w e : List ℕ) (b : Blank) → r.fill.told ≡ false → {f : Fill} {m : Mark} {w' : List ℕ}
-    → f ≡ slid b.at r.fill → m ≡ mark_at 0 0 0 (r.mark.line + b.lines) → w' ≡ slid_window b.at r.fill w
-    → asked (with_fill f (with_mark m r)) w' e ≡ lead_on b r w e
-lead-with r w e b t p q s = (λ i. asked (with_fill (p i) (with_mark (q i) r)) (s i) e) ∙ sym (lead-asks r w e b t)
 
 -- the next record begins where a current one ends
 pub passed-good : (r : Reader) (w e : List ℕ) → Good r w e → Good (passed r) w e
@@ -315,12 +267,6 @@ lead-begins r w e g b k =
     let a = k.at_start in
     let n = k.lines_few in
     begins-good r w e g b.at (r.mark.line + b.lines) k.at_filled (omega arith) (omega arith)
-
-pub lead-inside : (r : Reader) (w e : List ℕ) → Good r w e → (b : Blank) → LeadIn b r → b.undecided ≡ false → b.at < length w
-lead-inside r w e g b k t =
-    let v = g.is-sane.window_sound in
-    let h = k.decided t in
-    omega (arith, v.filled_fits, v.capacity_fits, g.window_lent)
 
 -- the ends' test as the code asks it
 pub rise-test : (r : Reader) (e : List ℕ) {t : Bool} → rising r.mark.start.0 (take r.mark.count e) r.fill.filled ≡ t → ends_rise r e ≡ t
@@ -345,9 +291,6 @@ module _ (r : Reader) (w e : List ℕ) where
   unfolding read_of
   refused-state t = rw t
 
-  pub read-insane : sane r ≡ false → read_of r w e ≡ does (refuses 11 []) r w e
-  read-insane t = refused-state (neither (sane r) (lent_as r (length w) (length e)) (inl t))
-
   pub read-unlent : lent_as r (length w) (length e) ≡ false → read_of r w e ≡ does (refuses 11 []) r w e
   read-unlent t = refused-state (neither (sane r) (lent_as r (length w) (length e)) (inr t))
 
@@ -359,10 +302,3 @@ module _ (r : Reader) (w e : List ℕ) where
     pub read_goes : (not (lasts r.phase) && r.fill.asking) ≡ false → read_of r w e ≡ read_in r.phase r w e
     unfolding read_of
     read_goes p = rw (t, u, p)
-
--- an ask that is repeated
-pub repeat-ask : (r : Reader) → Sane r → (a : Ask) → a ≡ ask_of r.fill → (w e : List ℕ) → does (said_by (answer.Ask a)) r w e ≡ does (ask_for r) r w e
-repeat-ask r s a p w e =
-    ap (λ (b : Ask). does (said_by (answer.Ask b)) r w e) p
-    ∙ ap (λ (o : ℕ). does (asks r.fill.filled (r.fill.capacity - r.fill.filled) o) r w e)
-    (ap (λ (o : InputOffset). o.0) (input-fits-word r.fill.base.0 r.fill.filled s.window_sound.input_fits))

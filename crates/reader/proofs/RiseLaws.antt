@@ -1,5 +1,5 @@
--- Laws of ends that rise: a higher bound, ends that are moved with their record, the test of refusal 11; and the lengths that moving keeps.
--- Assumes nothing.
+-- Laws of ends that rise: a higher bound, ends that are moved with their record, the test of refusal 11; and the
+-- lengths that moving keeps. Assumes nothing.
 use Prim.Native.Nat.{ℕ, suc, ◌+◌, ◌-◌, ◌≤◌}
 use native.Mathlib.Omega.{arith}
 use mathlib.Core.Bool.{true}

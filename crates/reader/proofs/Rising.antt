@@ -25,3 +25,5 @@ module _ (es : List ℕ) (i lo hi : ℕ) where
   pub rising-next : i < length es → lo < get_or es i 0 → get_or es i 0 ≤ hi → rising lo (drop i es) hi ≡ rising (get_or es i 0) (drop (i + 1) es) hi
   unfolding rising
   rising-next h k l = rw (drop-cons es i 0 h, lt-ltb lo (get_or es i 0) k, le-leb (get_or es i 0) hi l, add-one i)
+
+pub ruleset rising_steps = (rising-end, rising-low, rising-high, rising-next)

@@ -1,37 +1,25 @@
 -- The test of refusal 11 holds exactly where every one of its facts does. Assumes nothing.
-use Prim.Native.Nat.{◌≤◌}
+use Prim.Native.Nat.{ℕ, ◌≤◌}
 use native.Mathlib.Omega.{arith}
 use mathlib.Core.Bool.{Bool, true, false, not, ◌&&◌, ◌||◌, false≢true}
-use mathlib.Core.Path.{◌≡◌, refl, sym, ap, ◌∙◌}
-use borrow.Author.Tests.{leb-true, le-leb, not-true, not-false}
+use mathlib.Core.Path.{◌≡◌, refl}
+use lib.Dec.{eqb}
+use borrow.Author.Tests.{eqb-true, leb-true}
+use Rattle.std.proofs.lemmas.Bool.Decides.{nat_tests}
 use Rattle.window.specs.Fill.{Sound, most}
-use Rattle.window.proofs.Laws.{same_test, sound-true, true-sound}
+use Rattle.window.proofs.Laws.{sound-true, true-sound}
 use Rattle.reader.specs.declared.state.Reader.{Reader}
-use Rattle.reader.specs.State.{Sane, sane, byte_of}
+use Rattle.reader.specs.State.{Sane, sane, lent_as, byte_of}
 
 -- a conjunction of tests
 pub and-true : (t u : Bool) → (t && u) ≡ true → (t ≡ true) × (u ≡ true)
 and-true true u e = (refl, e)
 and-true false u e = absurd (false≢true e)
 
-pub true-and : {t u : Bool} → t ≡ true → u ≡ true → (t && u) ≡ true
-true-and {t} {u} e f = ap (λ (b : Bool). b && u) e ∙ f
-
 -- a test that is asked only where another holds
 when_true : (t u : Bool) → (not t || u) ≡ true → t ≡ true → u ≡ true
 when_true true u e f = e
 when_true false u e f = absurd (false≢true f)
-
-true-when : (t u : Bool) → (t ≡ true → u ≡ true) → (not t || u) ≡ true
-true-when true u f = f refl
-true-when false u f = refl
-
--- a call's test that was asked as `if !test()`: it held, or it did not
-pub passed : {t u : Bool} → t ≡ u → not t ≡ false → u ≡ true
-passed {t} {u} e f = sym e ∙ not-false t f
-
-pub failed : {t u : Bool} → t ≡ u → not t ≡ true → u ≡ false
-failed {t} {u} e f = sym e ∙ not-true t f
 
 pub true-sane : (r : Reader) → sane r ≡ true → Sane r
 unfolding sane
@@ -58,24 +46,7 @@ true-sane r e =
 
 pub sane-true : (r : Reader) → Sane r → sane r ≡ true
 unfolding sane
-sane-true r s =
-    true-and (true-and (true-and (true-and (true-and (true-and (true-and (true-and
-    (le-leb _ _ s.capacity_least)
-    (sound-true r.fill s.window_sound))
-    (le-leb _ _ s.start_search))
-    (le-leb _ _ s.search_filled))
-    (le-leb _ _ s.count_slots))
-    (le-leb _ _ s.count_search))
-    (true-when _ _ (λ f. le-leb _ _ (s.current_has_end f))))
-    (le-leb _ _ s.line_least))
-    (le-leb _ _ s.line_most)
-
--- a test that holds where the facts do
-pub sane-is : (r : Reader) (t : Bool) → (t ≡ true → Sane r) → (Sane r → t ≡ true) → t ≡ sane r
-sane-is r t g h = same_test t (sane r) (λ e. sane-true r (g e)) (λ e. h (true-sane r e))
-
-pub insane : (r : Reader) → (Sane r → ⊥) → false ≡ sane r
-insane r out = sane-is r false (λ e. absurd (false≢true e)) (λ s. absurd (out s))
+sane-true r s = let fits = sound-true r.fill s.window_sound in let has = s.current_has_end in grind (arith, nat_tests)
 
 -- the byte of a record that lies in what is filled
 pub byte_fits : (r : Reader) → Sound r.fill → r.mark.start.0 ≤ r.mark.search.0 → r.mark.search.0 ≤ r.fill.filled → byte_of r ≤ most
@@ -83,3 +54,15 @@ byte_fits r s a b = let h = s.input_fits in omega arith
 
 pub sane-byte : (r : Reader) → Sane r → byte_of r ≤ most
 sane-byte r s = byte_fits r s.window_sound s.start_search s.search_filled
+
+-- the lent lengths, where their test held
+pub lent-window : (r : Reader) (window ends : ℕ) → lent_as r window ends ≡ true → r.fill.lent ≡ window
+unfolding lent_as
+lent-window r window ends e = eqb-true _ _ (and-true _ _ e).0
+
+pub lent-table : (r : Reader) (window ends : ℕ) → lent_as r window ends ≡ true → r.slots ≡ ends
+unfolding lent_as
+lent-table r window ends e = eqb-true _ _ (and-true (eqb r.fill.lent window) _ e).1
+
+-- what the test of refusal 11 gives to a call
+pub ruleset sanity = (true-sane, sane-byte, lent-window, lent-table)

@@ -1,4 +1,5 @@
--- Each promise is an equation with a definition, and what an answer says tells the answer: so it allows one. Assumes nothing.
+-- Each promise is an equation with a definition, and what an answer says tells the answer: so it allows one. Assumes
+-- nothing.
 use Prim.Native.Nat.{ℕ}
 use mathlib.Core.Bool.{cond}
 use mathlib.Core.List.{List, [], ◌∷◌}
@@ -9,26 +10,32 @@ use Rattle.growth.specs.declared.Policy.{Policy}
 use Rattle.window.specs.Offset.{window_at, input_at}
 use Rattle.reader.specs.declared.state.Reader.{Reader}
 use Rattle.reader.specs.declared.state.Position.{Position}
-use Rattle.reader.specs.declared.state.Setup.{Setup}
-use Rattle.reader.specs.declared.state.Setup.TheVariants as setup
 use Rattle.reader.specs.declared.state.Reported.{Reported}
-use Rattle.reader.specs.declared.state.Reported.TheVariants as report
 use Rattle.reader.specs.declared.state.Sought.{Sought}
-use Rattle.reader.specs.declared.state.Sought.TheVariants as sought
-use Rattle.reader.specs.declared.state.Where.{Where}
-use Rattle.reader.specs.declared.state.Where.TheVariants as where'
 use Rattle.reader.specs.declared.state.Current.{Current}
-use Rattle.reader.specs.declared.state.Current.TheVariants as current
 use Rattle.reader.specs.declared.state.Answer.{Answer}
 use Rattle.reader.specs.declared.state.Answer.TheVariants as answer
 use Rattle.reader.specs.declared.state.Next.{Next}
 use Rattle.reader.specs.declared.state.Look.{Look}
 use Rattle.reader.specs.declared.state.Sight.{Sight}
 use Rattle.reader.specs.declared.state.Sight.TheVariants as sight
+use Rattle.reader.specs.declared.error.SetupError.{SetupError}
+use Rattle.reader.specs.declared.error.ReportError.{ReportError}
+use Rattle.reader.specs.declared.error.ReportError.TheVariants as report
+use Rattle.reader.specs.declared.error.SeekError.{SeekError}
+use Rattle.reader.specs.declared.error.SeekError.TheVariants as seek
+use Rattle.reader.specs.declared.error.StateError.{StateError}
+use Rattle.reader.specs.declared.error.RecordError.{RecordError}
+use Rattle.reader.specs.declared.error.RecordError.TheVariants as record_
+use Rattle.std.specs.Prelude as prelude
+use Rattle.std.specs.Prelude.{Result, Ok, Err, Some, None, ⊤}
 use Rattle.reader.specs.Calls.{
   made_by,
   NewIs,
   Left,
+  left_by,
+  number_of_report,
+  number_of_seek,
   reported_by,
   ReportIs,
   sought_by,
@@ -52,41 +59,47 @@ use Rattle.reader.specs.Look.{Seen, whole, unfinished, over, denied, seen_by, Lo
 known_by : {A B : Type 0} (says : A → B) (back : B → A) → ((a : A) → back (says a) ≡ a) → {x : B} {r s : A} → says r ≡ x → says s ≡ x → r ≡ s
 known_by says back is {x} {r} {s} e f = sym (is r) ∙ ap back (e ∙ sym f) ∙ is s
 
-abbrev setup_back : Option Reader → Setup
-setup_back (some r) = setup.Made r
-setup_back none = setup.Refused
+abbrev setup_back : Option Reader → Result Reader SetupError
+setup_back (some r) = Ok r
+setup_back none = Err (record {})
 
-setup-is : (s : Setup) → setup_back (made_by s) ≡ s
-setup-is (setup.Made r) = refl
-setup-is setup.Refused = refl
+setup-is : (s : Result Reader SetupError) → setup_back (made_by s) ≡ s
+setup-is (Ok r) = refl
+setup-is (Err x) = refl
 
 pub new-unique :
-    (capacity : ℕ) (p : Policy) (window slots : ℕ) (r s : Setup) →
+    (capacity : ℕ) (p : Policy) (window slots : ℕ) (r s : Result Reader SetupError) →
     NewIs capacity p window slots r →
     NewIs capacity p window slots s →
     r ≡ s
-new-unique capacity p window slots r s = known_by (λ (a : Setup). made_by a) setup_back setup-is
+new-unique capacity p window slots r s = known_by (λ (a : Result Reader SetupError). made_by a) setup_back setup-is
 
 abbrev reported_as : Option ℕ → Reader → Reported
-reported_as none r = report.Taken r
-reported_as (some n) r = cond (eqb n 6) (report.Refused r) (report.State r)
+reported_as none r = record { reader = r; answer = Ok tt }
+reported_as (some n) r = record { reader = r; answer = Err (cond (eqb n 6) report.Count report.State) }
 
 reported-is : (s : Reported) → reported_as (reported_by s).refusal (reported_by s).reader ≡ s
-reported-is (report.Taken r) = refl
-reported-is (report.Refused r) = refl
-reported-is (report.State r) = refl
+reported-is s = go s.answer
+  where
+    go : (a : Result ⊤ ReportError) → let l = left_by number_of_report a s.reader in reported_as l.refusal l.reader ≡ record { reader = s.reader; answer = a }
+    go (Ok u) = refl
+    go (Err report.Count) = refl
+    go (Err report.State) = refl
 
 pub report-unique : (count : ℕ) (reader : Reader) (r s : Reported) → ReportIs count reader r → ReportIs count reader s → r ≡ s
 report-unique count reader r s = known_by (λ (a : Reported). reported_by a) (λ (l : Left). reported_as l.refusal l.reader) reported-is
 
 abbrev sought_as : Option ℕ → Reader → Sought
-sought_as none r = sought.Done r
-sought_as (some n) r = cond (eqb n 5) (sought.Refused r) (sought.State r)
+sought_as none r = record { reader = r; answer = Ok tt }
+sought_as (some n) r = record { reader = r; answer = Err (cond (eqb n 5) seek.Place seek.State) }
 
 sought-is : (s : Sought) → sought_as (sought_by s).refusal (sought_by s).reader ≡ s
-sought-is (sought.Done r) = refl
-sought-is (sought.Refused r) = refl
-sought-is (sought.State r) = refl
+sought-is s = go s.answer
+  where
+    go : (a : Result ⊤ SeekError) → let l = left_by number_of_seek a s.reader in sought_as l.refusal l.reader ≡ record { reader = s.reader; answer = a }
+    go (Ok u) = refl
+    go (Err seek.Place) = refl
+    go (Err seek.State) = refl
 
 pub seek-unique : (p : Position) (reader : Reader) (r s : Sought) → SeekIs p reader r → SeekIs p reader s → r ≡ s
 seek-unique p reader r s = known_by (λ (a : Sought). sought_by a) (λ (l : Left). sought_as l.refusal l.reader) sought-is
@@ -94,30 +107,42 @@ seek-unique p reader r s = known_by (λ (a : Sought). sought_by a) (λ (l : Left
 abbrev position_at : (line byte : ℕ) → Position
 position_at line byte = record { line = line; byte = input_at byte }
 
-abbrev where_back : Place → Where
-where_back (at line byte) = where'.At (position_at line byte)
-where_back nowhere = where'.None
-where_back (unknown n) = where'.State
+abbrev where_back : Place → Result (prelude.Option Position) StateError
+where_back (at line byte) = Ok (Some (position_at line byte))
+where_back nowhere = Ok None
+where_back (unknown n) = Err (record {})
 
-where-is : (s : Where) → where_back (place_by s) ≡ s
-where-is (where'.At p) = refl
-where-is where'.None = refl
-where-is where'.State = refl
+where-is : (s : Result (prelude.Option Position) StateError) → where_back (place_by s) ≡ s
+where-is (Ok (Some p)) = refl
+where-is (Ok None) = refl
+where-is (Err x) = refl
 
-pub position-unique : (reader : Reader) (r s : Where) → PositionIs reader r → PositionIs reader s → r ≡ s
-position-unique reader r s = known_by (λ (a : Where). place_by a) where_back where-is
+pub position-unique :
+    (reader : Reader) (r s : Result (prelude.Option Position) StateError) →
+    PositionIs reader r →
+    PositionIs reader s →
+    r ≡ s
+position-unique reader r s = known_by (λ (a : Result (prelude.Option Position) StateError). place_by a) where_back where-is
 
-abbrev current_back : Held → Current
-current_back (held start filled count) = current.At start filled count
-current_back (missing n) = cond (eqb n 7) current.None current.State
+-- the error that a number names
+abbrev record_error : ℕ → RecordError
+record_error n = cond (eqb n 7) record_.NoRecord record_.State
 
-current-is : (s : Current) → current_back (held_by s) ≡ s
-current-is (current.At start filled count) = refl
-current-is current.None = refl
-current-is current.State = refl
+abbrev current_back : Held → Result Current RecordError
+current_back (held start filled count) = Ok (record { start = start; filled = filled; count = count })
+current_back (missing n) = Err (record_error n)
 
-pub current-unique : (window table : ℕ) (reader : Reader) (r s : Current) → CurrentIs window table reader r → CurrentIs window table reader s → r ≡ s
-current-unique window table reader r s = known_by (λ (a : Current). held_by a) current_back current-is
+current-is : (s : Result Current RecordError) → current_back (held_by s) ≡ s
+current-is (Ok c) = refl
+current-is (Err record_.NoRecord) = refl
+current-is (Err record_.State) = refl
+
+pub current-unique :
+    (window table : ℕ) (reader : Reader) (r s : Result Current RecordError) →
+    CurrentIs window table reader r →
+    CurrentIs window table reader s →
+    r ≡ s
+current-unique window table reader r s = known_by (λ (a : Result Current RecordError). held_by a) current_back current-is
 
 abbrev answer_back : Said → Answer
 answer_back (asks place room offset) = answer.Ask (record { place = window_at place; room = room; offset = input_at offset })
@@ -151,18 +176,18 @@ next-unique reader w e r s w₁ w₂ e₁ e₂ p q =
       ap (λ (d : Did). d.table) same,
     )
 
-abbrev sight_back : Seen → Sight
-sight_back (whole line byte) = sight.Whole (position_at line byte)
-sight_back unfinished = sight.Unfinished
-sight_back over = sight.Over
-sight_back (denied n) = cond (eqb n 7) sight.None sight.State
+abbrev sight_back : Seen → Result Sight RecordError
+sight_back (whole line byte) = Ok (sight.Whole (position_at line byte))
+sight_back unfinished = Ok sight.Unfinished
+sight_back over = Ok sight.Over
+sight_back (denied n) = Err (record_error n)
 
-sight-is : (s : Sight) → sight_back (seen_by s) ≡ s
-sight-is (sight.Whole p) = refl
-sight-is sight.Unfinished = refl
-sight-is sight.Over = refl
-sight-is sight.None = refl
-sight-is sight.State = refl
+sight-is : (s : Result Sight RecordError) → sight_back (seen_by s) ≡ s
+sight-is (Ok (sight.Whole p)) = refl
+sight-is (Ok sight.Unfinished) = refl
+sight-is (Ok sight.Over) = refl
+sight-is (Err record_.NoRecord) = refl
+sight-is (Err record_.State) = refl
 
 pub look-unique :
     (reader : Reader) (w e : List ℕ) (r s : Look) (e₁ e₂ : List ℕ) →
@@ -170,7 +195,7 @@ pub look-unique :
     LookIs reader w e s e₂ →
     (r ≡ s) × (e₁ ≡ e₂)
 look-unique reader w e r s e₁ e₂ p q =
-    let seen = known_by (λ (a : Sight). seen_by a) sight_back sight-is (ap (λ (d : Looked). d.seen) p) (ap (λ (d : Looked). d.seen) q) in
+    let seen = known_by (λ (a : Result Sight RecordError). seen_by a) sight_back sight-is (ap (λ (d : Looked). d.seen) p) (ap (λ (d : Looked). d.seen) q) in
     let same = p ∙ sym q in (
       λ i. record { reader = (same i).reader; sight = seen i },
       ap (λ (d : Looked). d.table) same,

@@ -3,3 +3,4 @@ pub mod State
 pub mod Read
 pub mod Look
 pub mod Calls
+pub mod Refusals

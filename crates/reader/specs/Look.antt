@@ -1,6 +1,7 @@
--- What a record set goes by (01, module 6): "every record from the current place that is whole in the window ... and meets no refusal", one at a
--- time, and "the rest is read next". A look asks for nothing and moves nothing. Assumes nothing.
-use Rattle.std.specs.Prelude.{ℕ, suc, cond, ◌&&◌, List, ◌≡◌, length, set, eqb, leb}
+-- What a record set goes by (01, module 6): "every record from the current place that is whole in the window ... and
+-- meets no refusal", one at a time, and "the rest is read next". A look asks for nothing and moves nothing. Assumes
+-- nothing.
+use Rattle.std.specs.Prelude.{ℕ, suc, cond, ◌&&◌, List, ◌≡◌, length, set, eqb, leb, Result, Ok, Err}
 use Rattle.scan.specs.Search.{searched}
 use Rattle.scan.specs.declared.ends.Stop.{Stop}
 use Rattle.scan.specs.declared.ends.Stop.TheVariants as stop
@@ -10,23 +11,24 @@ use Rattle.reader.specs.declared.state.Phase.TheVariants as phase
 use Rattle.reader.specs.declared.state.Look.{Look}
 use Rattle.reader.specs.declared.state.Sight.{Sight}
 use Rattle.reader.specs.declared.state.Sight.TheVariants as sight
+use Rattle.reader.specs.declared.error.RecordError.{RecordError}
 use Rattle.reader.specs.State.{byte_of, with_mark, in_phase, mark_at, sane, lent_as, is_current}
 use Rattle.reader.specs.Read.{reached, searches, passed}
+use Rattle.reader.specs.Calls.{number_of_record}
 
--- what is seen behind the current record: a whole record (line, byte); one that is not whole in the filled bytes, or that a read would refuse; the
--- end; or a refusal, 7 or 11
+-- what is seen behind the current record: a whole record (line, byte); one that is not whole in the filled bytes, or
+-- that a read would refuse; the end; or a refusal, 7 or 11
 pub data Seen : Type 0 where
   whole : (line byte : ℕ) → Seen
   unfinished : Seen
   over : Seen
   denied : (number : ℕ) → Seen
 
-abbrev pub seen_by : Sight → Seen
-seen_by (sight.Whole p) = whole p.line p.byte.0
-seen_by sight.Unfinished = unfinished
-seen_by sight.Over = over
-seen_by sight.None = denied 7
-seen_by sight.State = denied 11
+abbrev pub seen_by : Result Sight RecordError → Seen
+seen_by (Ok (sight.Whole p)) = whole p.line p.byte.0
+seen_by (Ok sight.Unfinished) = unfinished
+seen_by (Ok sight.Over) = over
+seen_by (Err x) = denied (number_of_record x)
 
 -- what a look sees and leaves
 pub record Looked : Type 0 where
@@ -67,7 +69,8 @@ looks_on r w e =
     let s = searches r w e in
     looked_to s.out.stop (reached s.out.at s.out.count r) s.ends
 
--- behind a current record: the end, after which none is named; else the next record, once the window is full or the end was told
+-- behind a current record: the end, after which none is named; else the next record, once the window is full or the
+-- end was told
 unfoldable pub looks_behind : Reader → (w e : List ℕ) → Looked
 unfolding looks_on
 looks_behind r w e =

@@ -16,7 +16,8 @@ use Rattle.reader.specs.declared.state.Answer.TheVariants as answer
 use Rattle.reader.specs.declared.state.Next.{Next}
 use Rattle.reader.specs.State.{byte_of, with_fill, with_mark, in_phase, mark_at, sane, lent_as, ends_rise}
 
--- what is said: an ask (place, room, input offset), a record (line, byte), the end, or a refusal by its number with its values
+-- what is said: an ask (place, room, input offset), a record (line, byte), the end, or a refusal by its number with
+-- its values
 pub data Said : Type 0 where
   asks : (place room offset : ℕ) → Said
   gives : (line byte : ℕ) → Said
@@ -46,7 +47,8 @@ does s r w e = record { said = s; reader = r; window = w; table = e }
 abbrev pub did : Next → (w e : List ℕ) → Did
 did n w e = does (said_by n.answer) n.reader w e
 
--- "Otherwise the call answers an ask: place (the filled length), room (capacity less filled, at least 1), input offset."
+-- "Otherwise the call answers an ask: place (the filled length), room (capacity less filled, at least 1), input
+-- offset."
 abbrev pub ask_for : Reader → Said
 ask_for r = asks r.fill.filled (r.fill.capacity - r.fill.filled) (r.fill.base.0 + r.fill.filled)
 
@@ -71,7 +73,8 @@ too_many r w e = does (refuses 4 (placed r)) (in_phase phase.Table r) w e
 abbrev pub reached : (search count : ℕ) → Reader → Reader
 reached search count r = with_mark (mark_at r.mark.start.0 search count r.mark.line) r
 
--- "Window full, record unfinished: if it starts at offset above 0, it is moved to 0; bytes behind the moved part stay." Its ends move with it.
+-- "Window full, record unfinished: if it starts at offset above 0, it is moved to 0; bytes behind the moved part
+-- stay." Its ends move with it.
 abbrev pub moved_to_front : Reader → Reader
 moved_to_front r =
     with_fill (slid r.mark.start.0 r.fill)
@@ -89,8 +92,8 @@ makes_room r w e =
     (asked (moved_to_front r) (slid_window r.mark.start.0 r.fill w) (moved_ends r.mark.count r.mark.start.0 e))
     (grows (widened_to r.fill) r w e)
 
--- The end closes the last record: its last line ends where the search stopped, on a last `\n` or behind the last byte. Search is put behind
--- the record. Without a slot for that end, refusal 4.
+-- The end closes the last record: its last line ends where the search stopped, on a last `\n` or behind the last
+-- byte. Search is put behind the record. Without a slot for that end, refusal 4.
 unfoldable pub closed : (at : ℕ) → Reader → (w e : List ℕ) → Did
 closed at r w e =
     cond (leb r.slots r.mark.count)
@@ -113,6 +116,34 @@ searches r w e =
 abbrev pub SearchIs : Reader → (w e : List ℕ) → Searched → (e' : List ℕ) → Type 0
 SearchIs r w e s e' = record { out = s; ends = e' } ≡ searches r w e
 
+-- what a search and the told end come to: the reader, where it stopped, and the ends
+pub record Found : Type 0 where
+  pub reader : Reader
+  pub stop : Stop
+  pub table : List ℕ
+
+abbrev pub found : Reader × Stop → (e : List ℕ) → Found
+found p e = record { reader = p.0; stop = p.1; table = e }
+
+-- the told end closes a record that was searched to it; without a slot for its last end, the table is full
+abbrev pub closed_to : Stop → Reader → (e : List ℕ) → Found
+closed_to stop.Record r e = record { reader = r; stop = stop.Record; table = e }
+closed_to stop.Full r e = record { reader = r; stop = stop.Full; table = e }
+closed_to stop.Filled r e =
+    cond r.fill.told
+    (cond (leb r.slots r.mark.count)
+    (record { reader = r; stop = stop.Full; table = e })
+    (record {
+      reader = reached r.fill.filled (suc r.mark.count) r;
+      stop = stop.Record;
+      table = set e r.mark.count r.mark.search.0;
+    }))
+    (record { reader = r; stop = stop.Filled; table = e })
+
+unfoldable pub found_in : Reader → (w e : List ℕ) → Found
+unfolding searched
+found_in r w e = let s = searches r w e in closed_to s.out.stop (reached s.out.at s.out.count r) s.ends
+
 -- Where the input has ended and nothing of a record is there, that is the end.
 unfoldable pub hunted : Reader → (w e : List ℕ) → Did
 unfolding searched closed makes_room
@@ -126,13 +157,15 @@ hunted r w e =
 abbrev pub begins_at : (start line : ℕ) → Reader → Reader
 begins_at start line r = in_phase phase.Searching (with_mark (mark_at start start 0 line) r)
 
--- The lead, in a window that is full or at the told end: the blank lines from the start on are passed. "If nothing else follows, there are
--- no records"; "Window full of blank lead: all is dropped but an unfinished last `\r`, moved to 0"; "The first other line must begin
--- with `>`; otherwise refusal 2 with its true line number and its first byte".
+-- The lead, in a window that is full or at the told end: the blank lines from the start on are passed. "If nothing
+-- else follows, there are no records"; "Window full of blank lead: all is dropped but an unfinished last `\r`, moved
+-- to 0"; "The first other line must begin with `>`; otherwise refusal 2 with its true line number and its first
+-- byte".
 abbrev pub lead_dropped : Blank → Reader → Reader
 lead_dropped b r = with_fill (slid b.at r.fill) (with_mark (mark_at 0 0 0 (r.mark.line + b.lines)) r)
 
--- what is known of a lead: it lies in the filled bytes, has no more lines than bytes, and where it is decided a byte stands behind it
+-- what is known of a lead: it lies in the filled bytes, has no more lines than bytes, and where it is decided a byte
+-- stands behind it
 pub record LeadIn (b : Blank) (r : Reader) : Type 0 where
   pub at_start : r.mark.start.0 ≤ b.at
   pub at_filled : b.at ≤ r.fill.filled
@@ -168,8 +201,8 @@ sought_at r w e =
     (hunted (begins_at r.mark.start.0 r.mark.line r) w e)
     (does (refuses 5 []) (in_phase phase.Astray r) w e)
 
--- A record is searched on; the search uses the ends recorded so far. Where a set ended before the record, it is shown no longer, unless its ends
--- are refused.
+-- A record is searched on; the search uses the ends recorded so far. Where a set ended before the record, it is shown
+-- no longer, unless its ends are refused.
 unfoldable pub searched_on : Reader → (w e : List ℕ) → Did
 unfolding ends_rise hunted
 searched_on r w e = cond (ends_rise r e) (hunted (in_phase phase.Searching r) w e) (does (refuses 11 []) r w e)

@@ -27,7 +27,8 @@ abbrev pub in_phase : Phase → Reader → Reader
 in_phase p r = record { fill = r.fill; mark = r.mark; slots = r.slots; phase = p }
 
 abbrev pub mark_at : (start search count line : ℕ) → Mark
-mark_at start search count line = record { start = window_at start; search = window_at search; count = count; line = line }
+mark_at start search count line =
+    record { start = window_at start; search = window_at search; count = count; line = line }
 
 abbrev pub is_current : Phase → Bool
 is_current phase.Lead = false

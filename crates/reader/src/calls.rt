@@ -1,12 +1,16 @@
 // Setup, reports, seeks and positions.
-ghost use Rattle.std.specs.Prelude.{◌≡◌, ◌≤◌, length};
+ghost use Rattle.std.specs.Prelude.{◌≡◌, ◌≤◌, ◌&&◌, length};
 ghost use Rattle.window.specs.Fill.{most};
-ghost use Rattle.reader.specs.State.{sane, is_current, position_of, byte_of, mark_at};
+ghost use Rattle.reader.specs.State.{sane, lent_as, position_of, byte_of};
 ghost use Rattle.reader.specs.Calls.{NewIs, ReportIs, SeekIs, PositionIs, CurrentIs, misplaced};
 
-use crate::state::{Current, Mark, Phase, Position, Reader, Reported, Setup, Sought, Where};
+use crate::error::{RecordError, ReportError, SeekError, SetupError, StateError};
+use crate::state::{Current, Mark, Phase, Position, Reader, Reported, Sought};
 use growth::Policy;
-use window::{Fill, InputOffset, Report, WindowOffset, to_input, to_window};
+use window::{Fill, InputOffset, WindowOffset, to_input, to_window};
+
+// The longest window.
+const MOST_WINDOW: usize = 1 << 31;
 
 impl Reader {
     // The least capacity, and the one that serves most inputs.
@@ -15,118 +19,124 @@ impl Reader {
     pub const DEFAULT: usize = 65536;
 
     // A reader of an input from its first byte on, over the window and the table that are shown, or refusal 1.
-    pub fn new(capacity: usize, policy: Policy, window: &[u8], ends: &[usize]) -> Setup
+    #[tactic(auto, unfolding(crate::specs::Calls::setup_of, crate::specs::Calls::setup_refused))]
+    pub fn new(
+        capacity: usize,
+        policy: Policy,
+        window: &[u8],
+        ends: &[usize],
+    ) -> Result<Reader, SetupError>
         ensures { NewIs capacity policy (length window.now) (length ends.now) result }
     {
         let lent = window.len();
         let slots = ends.len();
-        if capacity < Reader::MIN || lent < capacity {
-            return Setup::Refused;
+        if capacity < Reader::MIN || lent < capacity || MOST_WINDOW < lent || slots == 0 {
+            return Err(SetupError);
         }
-        if 2147483648 < lent || slots == 0 {
-            return Setup::Refused;
-        }
-        let fill = Fill::new(capacity, policy, lent);
-        let mark = mark_at(0, 1);
-        Setup::Made(Reader {
-            fill,
-            mark,
+        Ok(Reader {
+            fill: Fill::new(capacity, policy, lent),
+            mark: Mark::new(0, 1),
             slots,
             phase: Phase::Lead,
         })
     }
 
     // The caller reports that it put `count` bytes into the room that was asked for; 0 tells the end.
+    #[tactic(auto, unfolding(crate::specs::Calls::report_of))]
     pub fn report(self, count: usize) -> Reported
         ensures { ReportIs count self result }
     {
         if !self.is_sane() {
-            return Reported::State(self);
+            return Reported {
+                reader: self,
+                answer: Err(ReportError::State),
+            };
         }
-        let before = self.fill;
-        match before.report(count) {
-            Report::Taken(fill) => Reported::Taken(Reader { fill, ..self }),
-            Report::Refused => Reported::Refused(self),
+        match self.fill.report(count) {
+            Some(fill) => Reported {
+                reader: Reader { fill, ..self },
+                answer: Ok(()),
+            },
+            None => Reported {
+                reader: self,
+                answer: Err(ReportError::Count),
+            },
         }
     }
 
     // The next read takes the input from a position on.
+    #[tactic(auto, unfolding(crate::specs::Calls::seek_of))]
     pub fn seek(self, to: Position) -> Sought
         ensures { SeekIs to self result }
     {
         if !self.is_sane() {
-            return Sought::State(self);
+            return Sought {
+                reader: self,
+                answer: Err(SeekError::State),
+            };
         }
-        let byte = to.byte;
-        if is_misplaced(to.line, byte.0) {
-            return Sought::Refused(self);
+        if to.is_misplaced() {
+            return Sought {
+                reader: self,
+                answer: Err(SeekError::Place),
+            };
         }
-        let before = self.fill;
-        if before.holds(byte) {
-            let base = before.base;
-            let fill = before.asking(false);
-            let at = to_window(base, byte);
-            let mark = mark_at(at.0, to.line);
-            return Sought::Done(Reader {
+        let (fill, at) = if self.fill.holds(to.byte) {
+            (self.fill.asking(false), to_window(self.fill.base, to.byte))
+        } else {
+            (self.fill.empty_at(to.byte), WindowOffset(0))
+        };
+        Sought {
+            reader: Reader {
                 fill,
-                mark,
+                mark: Mark::new(at.0, to.line),
                 phase: Phase::Sought,
                 ..self
-            });
+            },
+            answer: Ok(()),
         }
-        let fill = before.empty_at(byte);
-        let mark = mark_at(0, to.line);
-        Sought::Done(Reader {
-            fill,
-            mark,
-            phase: Phase::Sought,
-            ..self
-        })
     }
 
-    // The place of the current or refused record, and after the end that of the last one given.
-    pub fn position(self) -> Where
+    // The place of the current or refused record, and after the end that of the last one given; `None` where there is
+    // none.
+    #[tactic(auto, using(crate::proofs::Sanity::sanity), unfolding(crate::specs::Calls::place_of))]
+    pub fn position(self) -> Result<Option<Position>, StateError>
         ensures { PositionIs self result }
     {
         if !self.is_sane() {
-            return Where::State;
+            return Err(StateError);
         }
-        let phase = self.phase;
-        match phase {
-            Phase::Lead => Where::None,
-            Phase::Sought => Where::None,
-            Phase::Searching => Where::None,
-            Phase::Current => Where::At(self.place()),
-            Phase::Ended => Where::At(self.place()),
-            Phase::Over => Where::None,
-            Phase::Window => Where::At(self.place()),
-            Phase::Table => Where::At(self.place()),
-            Phase::Astray => Where::None,
-            Phase::Ahead => Where::At(self.place()),
-        }
+        let at = self.place();
+        Ok(match self.phase {
+            Phase::Current | Phase::Ended | Phase::Window | Phase::Table | Phase::Ahead => Some(at),
+            Phase::Lead | Phase::Sought | Phase::Searching | Phase::Over | Phase::Astray => None,
+        })
     }
 
     // The current record, over a window and a table of these lengths.
-    pub fn current(self, window: usize, ends: usize) -> Current
+    #[tactic(auto, unfolding(crate::specs::Calls::current_of))]
+    pub fn current(self, window: usize, ends: usize) -> Result<Current, RecordError>
         ensures { CurrentIs window ends self result }
     {
-        if !self.is_sane() {
-            return Current::State;
+        if !self.is_lent(window, ends) {
+            return Err(RecordError::State);
         }
-        let fill = self.fill;
-        if fill.lent != window || self.slots != ends {
-            return Current::State;
+        if !self.phase.is_current() {
+            return Err(RecordError::NoRecord);
         }
-        let phase = self.phase;
-        if !is_current(phase) {
-            return Current::None;
-        }
-        let mark = self.mark;
-        Current::At {
-            start: mark.start.0,
-            filled: fill.filled,
-            count: mark.count,
-        }
+        Ok(Current {
+            start: self.mark.start.0,
+            filled: self.fill.filled,
+            count: self.mark.count,
+        })
+    }
+
+    // Refusal 11 is not due over a window and a table of these lengths, but for the ends.
+    #[tactic(auto, unfolding(crate::specs::State::lent_as))]
+    pub fn is_lent(self, window: usize, ends: usize) -> bool
+        ensures { result ≡ (sane self && lent_as self window ends) }
+    {
+        self.is_sane() && self.fill.lent == window && self.slots == ends
     }
 
     // The record's position.
@@ -134,81 +144,42 @@ impl Reader {
         requires { byte_of self ≤ most }
         ensures { result ≡ position_of self }
     {
-        let fill = self.fill;
-        let mark = self.mark;
-        let base = fill.base;
-        let start = mark.start;
-        let byte = to_input(base, start);
         Position {
-            line: mark.line,
-            byte,
+            line: self.mark.line,
+            byte: to_input(self.fill.base, self.mark.start),
         }
     }
 
     // Refusal 11 is not due, but for the lent lengths and the ends.
+    #[tactic(auto, unfolding(crate::specs::State::sane))]
     pub(crate) fn is_sane(self) -> bool
         ensures { result ≡ sane self }
     {
         let fill = self.fill;
-        let mark = self.mark;
-        let start = mark.start.0;
-        let search = mark.search.0;
-        if fill.capacity < Reader::MIN {
-            return false;
-        }
-        if !fill.is_sound() {
-            return false;
-        }
-        if search < start || fill.filled < search {
-            return false;
-        }
-        if self.slots < mark.count || search - start < mark.count {
-            return false;
-        }
-        let phase = self.phase;
-        if is_current(phase) && mark.count == 0 {
-            return false;
-        }
-        if mark.line == 0 {
-            return false;
-        }
-        let base = fill.base;
-        let byte = base.0 + start as u64;
-        mark.line <= byte + 1
+        let Mark {
+            start: WindowOffset(start),
+            search: WindowOffset(search),
+            count,
+            line,
+        } = self.mark;
+        Reader::MIN <= fill.capacity
+            && fill.is_sound()
+            && start <= search
+            && search <= fill.filled
+            && count <= self.slots
+            && count <= search - start
+            && (!self.phase.is_current() || 1 <= count)
+            && 1 <= line
+            && line <= fill.base.0 + start as u64 + 1
     }
 }
 
-// A record that begins at a place of the window, on a line.
-pub(crate) fn mark_at(start: usize, line: u64) -> Mark
-    ensures { result ≡ mark_at start start 0 line }
-{
-    Mark {
-        start: WindowOffset(start),
-        search: WindowOffset(start),
-        count: 0,
-        line,
+impl Position {
+    // A seek's refusal 5: line 0, a line above byte + 1, a byte above 2^62.
+    #[tactic(auto, unfolding(crate::specs::Calls::misplaced))]
+    pub fn is_misplaced(self) -> bool
+        ensures { result ≡ misplaced self.line self.byte.0 }
+    {
+        self.line == 0 || self.byte.0 < self.line - 1 || InputOffset::MOST < self.byte.0
     }
-}
-
-pub(crate) fn is_current(phase: Phase) -> bool
-    ensures { result ≡ is_current phase }
-{
-    if let Phase::Current = phase {
-        true
-    } else {
-        false
-    }
-}
-
-// A seek's refusal 5: line 0, a line above byte + 1, a byte above 2^62.
-fn is_misplaced(line: u64, byte: u64) -> bool
-    ensures { result ≡ misplaced line byte }
-{
-    if line == 0 {
-        return true;
-    }
-    if byte < line - 1 {
-        return true;
-    }
-    4611686018427387904 < byte
 }

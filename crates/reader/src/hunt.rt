@@ -1,194 +1,132 @@
 // Searching a record, and making room for it (01, "The window and its refills").
-ghost use Rattle.std.specs.Prelude.{◌≡◌, ℕ, ◌+◌, ◌≤◌, max, min, List, length};
-ghost use Rattle.window.specs.Fill.{most};
-ghost use Rattle.reader.specs.State.{Good, byte_of};
-ghost use Rattle.reader.specs.Read.{did, asked, given, too_long, too_many, SearchIs, reached, stopped, closed, makes_room, hunted};
+ghost use Rattle.std.specs.Prelude.{◌≡◌, ◌+◌, ◌≤◌, true, length};
+ghost use Rattle.scan.specs.declared.ends.Stop.TheVariants.{Filled};
+ghost use Rattle.window.specs.Fill.{most, asking};
+ghost use Rattle.reader.specs.State.{Good, byte_of, with_fill, in_phase};
+ghost use Rattle.reader.specs.Read.{said_by, did, ask_for, makes_room, hunted};
+ghost use Rattle.reader.specs.Read.{SearchIs, reached, found, found_in, closed_to};
 
 use crate::state::{Answer, Mark, Next, Phase, Reader};
 use scan::{Searched, Stop};
-use window::{Widened, WindowOffset};
+use window::WindowOffset;
 
 impl Reader {
     // The record is searched from where the last search stopped, and is given, refused, or wants more of the input.
+    #[tactic(auto, using(crate::proofs::FoundLaws::founds))]
     pub(crate) fn hunt(self, window: &mut [u8], ends: &mut [usize]) -> Next
         requires { Good self window.old ends.old }
         ensures { did result window.new ends.new ≡ hunted self window.old ends.old }
     {
-        let fill = self.fill;
-        let mark = self.mark;
-        if fill.told && mark.start.0 == fill.filled {
-            return Next {
-                reader: Reader {
-                    phase: Phase::Over,
-                    ..self
-                },
-                answer: Answer::End,
-            };
+        if self.fill.told && self.mark.start.0 == self.fill.filled {
+            return self.answers(Phase::Over, Answer::End);
         }
+        let (reader, stop) = self.find(window, ends);
+        match stop {
+            Stop::Record => reader.answers(Phase::Current, Answer::Record(reader.place())),
+            Stop::Full => reader.answers(Phase::Table, Answer::Table(reader.place())),
+            Stop::Filled => reader.make_room(window, ends),
+        }
+    }
+
+    // The record is searched on in the filled bytes, and where the input ends with them, the end closes it.
+    pub(crate) fn find(self, window: &[u8], ends: &mut [usize]) -> (Reader, Stop)
+        requires { Good self window.now ends.old }
+        ensures found { found result ends.new ≡ found_in self window.now ends.old }
+        ensures place { byte_of result.0 ≤ most }
+        ensures going { result.1 ≡ Filled → Good result.0 window.now ends.new }
+    {
         let found = self.search_in(window, ends);
-        let stop = found.stop;
-        self.reach(found.at, found.count).stop(stop, window, ends)
+        self.reach(found.at, found.count).close(found.stop, ends)
     }
 
     // The record is searched behind its `>`, from where the last search stopped, in the filled bytes.
-    pub(crate) fn search_in(self, window: &[u8], ends: &mut [usize]) -> Searched
+    fn search_in(self, window: &[u8], ends: &mut [usize]) -> Searched
         requires { Good self window.now ends.old }
         ensures { SearchIs self window.now ends.old result ends.new }
     {
-        let fill = self.fill;
-        let mark = self.mark;
-        let filled = fill.filled;
-        let from = smaller(larger(mark.search.0, mark.start.0 + 1), filled);
-        scan::search(&window[..filled], ends, from, mark.count, self.slots, b'>')
+        let filled = self.fill.filled;
+        let from = self.mark.search.0.max(self.mark.start.0 + 1).min(filled);
+        scan::search(
+            &window[..filled],
+            ends,
+            from,
+            self.mark.count,
+            self.slots,
+            b'>',
+        )
     }
 
     // A search came to `search` with `count` ends recorded.
-    pub(crate) fn reach(self, search: usize, count: usize) -> Reader
+    fn reach(self, search: usize, count: usize) -> Reader
         ensures { result ≡ reached search count self }
     {
-        let before = self.mark;
-        let start = before.start;
         let mark = Mark {
-            start,
             search: WindowOffset(search),
             count,
-            line: before.line,
+            ..self.mark
         };
         Reader { mark, ..self }
     }
 
-    // What follows a search, by where it stopped.
-    fn stop(self, stop: Stop, window: &mut [u8], ends: &mut [usize]) -> Next
-        requires { Good self window.old ends.old }
-        ensures { did result window.new ends.new ≡ stopped stop self window.old ends.old }
+    // A read's answer, with which the reader comes to a phase. What a look sees is of another type, and by `sees`.
+    pub(crate) fn answers(self, phase: Phase, answer: Answer) -> Next
+        ensures { result ≡ record { reader = in_phase phase self; answer = answer } }
     {
-        match stop {
-            Stop::Record => self.give(),
-            Stop::Full => self.refuse_table(),
-            Stop::Filled => {
-                let fill = self.fill;
-                if fill.told {
-                    return self.close(ends);
-                }
-                self.make_room(window, ends)
-            }
-        }
-    }
-
-    // The record is given, and is current.
-    fn give(self) -> Next
-        requires { byte_of self ≤ most }
-        ensures { (w e : List ℕ) → did result w e ≡ given self w e }
-    {
-        let place = self.place();
         Next {
-            reader: Reader {
-                phase: Phase::Current,
-                ..self
-            },
-            answer: Answer::Record(place),
+            reader: Reader { phase, ..self },
+            answer,
         }
     }
 
-    // Refusal 3.
-    fn refuse_window(self) -> Next
-        requires { byte_of self ≤ most }
-        ensures { (w e : List ℕ) → did result w e ≡ too_long self w e }
+    // The told end closes the record where the search stopped; without a slot for that end, the table is full.
+    fn close(self, stop: Stop, ends: &mut [usize]) -> (Reader, Stop)
+        requires { self.slots ≡ length ends.old }
+        ensures { found result ends.new ≡ closed_to stop self ends.old }
     {
-        let place = self.place();
-        Next {
-            reader: Reader {
-                phase: Phase::Window,
-                ..self
-            },
-            answer: Answer::Window(place),
-        }
-    }
-
-    // Refusal 4.
-    fn refuse_table(self) -> Next
-        requires { byte_of self ≤ most }
-        ensures { (w e : List ℕ) → did result w e ≡ too_many self w e }
-    {
-        let place = self.place();
-        Next {
-            reader: Reader {
-                phase: Phase::Table,
-                ..self
-            },
-            answer: Answer::Table(place),
-        }
-    }
-
-    // The end closes the record where the search stopped.
-    fn close(self, ends: &mut [usize]) -> Next
-        requires { (byte_of self ≤ most) × (self.slots ≡ length ends.old) }
-        ensures { (w : List ℕ) → did result w ends.new ≡ closed self.mark.search.0 self w ends.old }
-    {
-        let mark = self.mark;
-        let at = mark.search.0;
-        let count = mark.count;
+        let (Stop::Filled, true) = (stop, self.fill.told) else {
+            return (self, stop);
+        };
+        let count = self.mark.count;
         if self.slots <= count {
-            return self.refuse_table();
+            return (self, Stop::Full);
         }
-        ends[count] = at;
-        let fill = self.fill;
-        self.reach(fill.filled, count + 1).give()
+        ends[count] = self.mark.search.0;
+        (self.reach(self.fill.filled, count + 1), Stop::Record)
     }
 
     // The window is full and the record unfinished: it is moved to the front, or the window grows.
+    #[tactic(auto, unfolding(crate::specs::Read::makes_room))]
     fn make_room(self, window: &mut [u8], ends: &mut [usize]) -> Next
         requires { Good self window.old ends.old }
         ensures { did result window.new ends.new ≡ makes_room self window.old ends.old }
     {
-        let before = self.fill;
-        let mark = self.mark;
-        let start = mark.start.0;
+        let start = self.mark.start.0;
         if 0 < start {
-            let fill = before.slide(window, start);
-            scan::move_ends(ends, mark.count, start);
-            let moved = Mark {
+            let fill = self.fill.slide(window, start);
+            scan::move_ends(ends, self.mark.count, start);
+            let mark = Mark {
                 start: WindowOffset(0),
-                search: WindowOffset(mark.search.0 - start),
-                count: mark.count,
-                line: mark.line,
+                search: WindowOffset(self.mark.search.0 - start),
+                ..self.mark
             };
-            return Reader {
-                fill,
-                mark: moved,
-                ..self
-            }
-            .ask();
+            return Reader { fill, mark, ..self }.ask();
         }
-        match before.grow() {
-            Widened::To(fill) => Reader { fill, ..self }.ask(),
-            Widened::No => self.refuse_window(),
+        match self.fill.grow() {
+            Some(fill) => Reader { fill, ..self }.ask(),
+            None => self.answers(Phase::Window, Answer::Window(self.place())),
         }
     }
 
     // An ask is opened.
     pub(crate) fn ask(self) -> Next
         requires { self.fill.base.0 + self.fill.filled ≤ most }
-        ensures { (w e : List ℕ) → did result w e ≡ asked self w e }
+        ensures answer { said_by result.answer ≡ ask_for self }
+        ensures reader { result.reader ≡ with_fill (asking true self.fill) self }
     {
-        let before = self.fill;
-        let ask = before.ask();
-        let fill = before.asking(true);
+        let fill = self.fill.asking(true);
         Next {
             reader: Reader { fill, ..self },
-            answer: Answer::Ask(ask),
+            answer: Answer::Ask(self.fill.ask()),
         }
     }
-}
-
-fn larger(a: usize, b: usize) -> usize
-    ensures { result ≡ max a b }
-{
-    if a < b { b } else { a }
-}
-
-fn smaller(a: usize, b: usize) -> usize
-    ensures { result ≡ min a b }
-{
-    if b < a { b } else { a }
 }

@@ -4,8 +4,7 @@ use Rattle.std.specs.Prelude.{ℕ, List, ◌≡◌}
 use Rattle.std.specs.Borrow.{Bor}
 use Rattle.reader.specs.declared.state.Reader.{Reader}
 use Rattle.view.specs.Current.{Line}
-use Rattle.view.specs.View.{ShownIn}
-use Rattle.view.specs.declared.View.{View}
+use Rattle.view.specs.View.{Viewed, ShownIn}
 use Rattle.refrecord.specs.declared.RefRecord.{RefRecord}
 
 abbrev pub borrowing : Reader → (window ends : Bor (List ℕ)) → RefRecord
@@ -15,11 +14,11 @@ borrowing reader window ends = record { reader = reader; window = window; ends =
 abbrev pub New : Reader → (window ends : Bor (List ℕ)) → RefRecord → Type 0
 New reader window ends r = r ≡ borrowing reader window ends
 
-abbrev pub Of : (P : Reader → (w ends : List ℕ) → View → Type 0) → RefRecord → View → Type 0
+abbrev pub Of : (P : Reader → (w ends : List ℕ) → Viewed → Type 0) → RefRecord → Viewed → Type 0
 Of P r = P r.reader r.window.now r.ends.now
 
-abbrev pub LineOf : RefRecord → (i : ℕ) → View → Type 0
+abbrev pub LineOf : RefRecord → (i : ℕ) → Viewed → Type 0
 LineOf r i = Line r.reader r.window.now r.ends.now i
 
-abbrev pub ShownOf : RefRecord → View → List ℕ → Type 0
+abbrev pub ShownOf : RefRecord → Viewed → List ℕ → Type 0
 ShownOf r view = ShownIn view r.window.now

@@ -1,6 +1,6 @@
-// A record that borrows window and line ends (01, module 8; fasta.rs, `RefRecord`): a reader's current record as one value, with the window
-// and the table that were lent to the reader. Its functions are the views of the current record (crate view), so they refuse as those do:
-// 7 without a current record, 11 in a state that refusal 11 names.
+// A record that borrows window and line ends (01, module 8; fasta.rs, `RefRecord`): a reader's current record as one
+// value, with the window and the table that were lent to the reader. Its functions are the views of the current record
+// (crate view), so they refuse as those do: 7 without a current record, 11 in a state that refusal 11 names.
 #![tactic(auto)]
 
 ghost use Rattle.view.specs.Current.{Head, Id, Desc, Seq};
@@ -64,7 +64,8 @@ impl<'w, 'e> RefRecord<'w, 'e> {
         view::line(self.reader, self.window, self.ends, i)
     }
 
-    // The part itself that a view names, empty on a refusal and where there is none. It lives as long as the window is lent.
+    // The part itself that a view names, empty on a refusal and where there is none. It lives as long as the window is
+    // lent.
     pub fn shown(self, view: View) -> &'w [u8]
         ensures { ShownOf self.entry view result.now }
     {

@@ -6,20 +6,22 @@ use native.Mathlib.Omega.{arith}
 use mathlib.Core.Bool.{Bool, true, false, cond}
 use mathlib.Core.List.{List, [], ◌∷◌, ◌++◌, append_assoc, append-nil}
 use mathlib.Core.Path.{◌≡◌, refl, sym, ap, subst, ◌∙◌}
-use lib.ListN.{length, take, drop, length-append, drop_of_length-le, take-append-drop}
-use lib.Seq.{drop-drop, take_all, length-take-le, append_snoc}
+use mathlib.Core.Logic.{◌⊎◌, inl, inr}
+use lib.ListN.{length, take, drop, drop_of_length-le, take-append-drop}
+use lib.Seq.{take_all, length-take-le, append_snoc}
 use lib.Dec.{eqb}
 use borrow.Author.Tests.{eq-eqb, ne_eqb, eqb-false}
 use Rattle.meaning.specs.Parts.{joined}
 use Rattle.scan.specs.Move.{pasted}
-use Rattle.write.specs.Put.{Fits}
+use Rattle.scan.proofs.Paste.{pasted-none}
+use Rattle.write.specs.Put.{Fits, Put}
 use Rattle.write.specs.Text.{seq_text, wrap_seq_text, wrap_seq_iter_text}
 use Rattle.write.proofs.Lengths.{lines_none, lines-some, wrap-length}
-use Rattle.write.proofs.Putting.{first_fits, fits-as, Rest, rest_all, rest-next, rest-none, put_as, put_both}
+use Rattle.write.proofs.Putting.{first_fits, second_fits, fits-as, put_as, put_both}
 use Rattle.write.proofs.ReadBack.{no_bytes}
 use Rattle.write.proofs.Wrap.{wrap-none, wrap-line, by_lines}
-use Rattle.rewrite.specs.Wrap.{wrap_on, column_on, Goes, Reached, wrap_len}
-use Rattle.rewrite.specs.declared.wrap.Column.{Column}
+use Rattle.rewrite.specs.Wrap.{wrap_on, column_on, Goes, Piece, Lays, Reached, Ends, Ended, wrap_len}
+use Rattle.rewrite.specs.declared.column.Column.{Column}
 use Rattle.rewrite.proofs.Cases.{put-at}
 
 module _ (wrap : ℕ) where
@@ -94,88 +96,80 @@ module _ (wrap : ℕ) where
       let ne : suc col ≡ wrap → ⊥ = λ e. omega arith in
       (on-more col x (y ∷ a) ne ∙ ap (λ (l : List ℕ). x ∷ l) ih.0, column-more col x (y ∷ a) ne ∙ ih.1)
 
-abbrev column : (at col : ℕ) → Column
-column at col = record { at = at; col = col }
+-- a text laid behind another
+lays-both : {a b : List ℕ} {k k' : ℕ} {c mid new : Column} → Fits c.at (a ++ b) c.out.now → Lays a k c mid → Lays b k' mid new → Lays (a ++ b) k' c new
+lays-both fits p q = record { put = put_both fits p.put q.put; column = q.column; wrap = q.wrap ∙ p.wrap; same = q.same ∙ p.same }
 
--- a piece put, with a `\n` behind it where it fills its line
-pub piece-short : (wrap col at : ℕ) (piece out : List ℕ) {exit : List ℕ} → col + length piece < wrap → exit ≡ pasted at piece out
-    → Reached wrap col at piece out (column (at + length piece) (col + length piece)) exit
-piece-short wrap col at piece out h e =
-    let on = short_on wrap piece col h in
-    record { column = sym on.1; put = put_as on.0 (put-at at piece out e) }
+lays-as : {a b : List ℕ} {k k' : ℕ} {c new : Column} → a ≡ b → k ≡ k' → Lays b k' c new → Lays a k c new
+lays-as e f p = record { put = put_as e p.put; column = p.column ∙ sym f; wrap = p.wrap; same = p.same }
 
-pub piece-full : (wrap col at : ℕ) (piece out : List ℕ) {mid exit : List ℕ} → 0 < length piece → col + length piece ≡ wrap
-    → Goes wrap col at piece out → mid ≡ pasted at piece out → exit ≡ pasted (at + length piece) (10 ∷ []) mid
-    → Reached wrap col at piece out (column (at + length piece + 1) 0) exit
-piece-full wrap col at piece out {mid} k h goes e f =
-    let on = full-on wrap piece col k h in
-    let fits : Fits at (seq_text piece) out = omega (arith, goes.room, ap length on.0) in
+-- what the output holds when the column is gone
+pub left_by : {text exit : List ℕ} {k : ℕ} {c new : Column} → Lays text k c new → exit ≡ new.out.now → Put c.at text c.out.now new.at exit
+left_by p e = record { place = p.put.place; holds = e ∙ p.put.holds }
+
+-- a piece put, and the `\n` behind one that fills its line
+pub piece-short : {c new : Column} (piece : List ℕ) → c.col + length piece < c.wrap → Lays piece (c.col + length piece) c new → Reached piece c new
+piece-short {c} piece h p = let on = short_on c.wrap piece c.col h in lays-as on.0 on.1 p
+
+pub piece-ends : {c : Column} (piece : List ℕ) {exit : List ℕ} → Piece piece c → c.col + length piece ≡ c.wrap → exit ≡ pasted c.at piece c.out.now
+    → Fits (c.at + length piece) (10 ∷ []) exit
+piece-ends {c} piece P h e =
+    second_fits (10 ∷ []) (fits-as c.at c.out.now (full-on c.wrap piece c.col P.some h).0 P.goes.room) (put-at c.at piece c.out.now e)
+
+pub piece-full : {k : ℕ} {c mid new : Column} (piece : List ℕ) → Piece piece c → c.col + length piece ≡ c.wrap → Ended mid new → Lays piece k c mid
+    → Reached piece c new
+piece-full {k} {c} piece P h q p =
+    let on = full-on c.wrap piece c.col P.some h in
+    lays-as on.0 on.1 (lays-both (fits-as c.at c.out.now on.0 P.goes.room) p q)
+
+-- Of bytes that are to go on from `first`, the rest `seq` is still to be put at `c`.
+pub record Due (all : List ℕ) (first : Column) (seq : List ℕ) (c : Column) : Type 0 where
+  pub goes : Goes seq c
+  pub reach : (new : Column) → Reached seq c new → Reached all first new
+
+pub due_all : {seq : List ℕ} {c : Column} → Goes seq c → Due seq c seq c
+due_all g = record { goes = g; reach = λ new p. p }
+
+pub due-as : {all seq other : List ℕ} {first c : Column} → seq ≡ other → Due all first seq c → Due all first other c
+due-as {all} {seq} {other} {first} {c} e d = subst (λ (s : List ℕ). Due all first s c) e d
+
+-- there is room for its front
+pub due-front : {all : List ℕ} {first c : Column} (a b : List ℕ) → Due all first (a ++ b) c → Goes a c
+due-front {all} {first} {c} a b d =
     record {
-      column = sym on.1;
-      put = put_as on.0 (put_both fits (put-at at piece out e) (put-at (at + length piece) (10 ∷ []) mid f));
+      inside = d.goes.inside;
+      room = first_fits c.at (wrap_on c.wrap c.col a) (wrap_on c.wrap (column_on c.wrap c.col a) b) c.out.now
+          (fits-as c.at c.out.now (on-append c.wrap a b c.col) d.goes.room);
     }
 
--- Of bytes that are to go on from a column, the rest `seq` is still to be put at `at` from column `col` on.
-pub record Due (wrap col₀ at₀ : ℕ) (seq₀ out₀ : List ℕ) (col at : ℕ) (seq out : List ℕ) : Type 0 where
-  pub inside : col < wrap
-  pub column : column_on wrap col seq ≡ column_on wrap col₀ seq₀
-  pub rest : Rest at₀ (wrap_on wrap col₀ seq₀) out₀ at (wrap_on wrap col seq) out
-  pub same : length out ≡ length out₀
+-- its front is put
+pub due-next : {all : List ℕ} {first c new : Column} (a b : List ℕ) → Due all first (a ++ b) c → Reached a c new → Due all first b new
+due-next {all} {first} {c} {new} a b d p =
+    let k = column_on c.wrap c.col a in
+    let split = on-append c.wrap a b c.col in
+    let fits = fits-as c.at c.out.now split d.goes.room in
+    let on : wrap_on new.wrap new.col b ≡ wrap_on c.wrap k b = λ i. wrap_on (p.wrap i) (p.column i) b in
+    let behind : column_on new.wrap new.col b ≡ column_on c.wrap k b = λ i. column_on (p.wrap i) (p.column i) b in
+    record {
+      goes = record {
+        inside = omega (arith, p.column, p.wrap, column-inside c.wrap a c.col d.goes.inside);
+        room = fits-as new.at new.out.now (sym on) (second_fits (wrap_on c.wrap k b) fits p.put);
+      };
+      reach = λ last q.
+          d.reach last (lays-as split (column-append c.wrap a b c.col) (lays-both fits p (lays-as (sym on) (sym behind) q)));
+    }
 
-pub due_all : (wrap col at : ℕ) (seq out : List ℕ) → col < wrap → Due wrap col at seq out col at seq out
-due_all wrap col at seq out h = record { inside = h; column = refl; rest = rest_all at (wrap_on wrap col seq) out; same = refl }
-
-pub due-as : {wrap col₀ at₀ col at : ℕ} {seq₀ out₀ seq out : List ℕ} {other : List ℕ} → seq ≡ other → Due wrap col₀ at₀ seq₀ out₀ col at seq out
-    → Due wrap col₀ at₀ seq₀ out₀ col at other out
-due-as {wrap} {col₀} {at₀} {col} {at} {seq₀} {out₀} {seq} {out} e d = subst (λ (s : List ℕ). Due wrap col₀ at₀ seq₀ out₀ col at s out) e d
-
--- what is left of a line: the piece up to `to`, and the rest
-pub piece-rest : (line : List ℕ) (i to : ℕ) → i ≤ to → drop i line ≡ take (to - i) (drop i line) ++ drop to line
-piece-rest line i to h =
-    let e : i + (to - i) ≡ to = omega arith in
-    sym (take-append-drop (to - i) (drop i line))
-    ∙ ap (λ (l : List ℕ). take (to - i) (drop i line) ++ l) (drop-drop (to - i) i line ∙ ap (λ (n : ℕ). drop n line) e)
-
-module _ {wrap col₀ at₀ : ℕ} {seq₀ out₀ : List ℕ} (goes : Goes wrap col₀ at₀ seq₀ out₀) where
-  -- there is room for the rest, and for its front
-  pub due-goes : {col at : ℕ} {seq out : List ℕ} → Due wrap col₀ at₀ seq₀ out₀ col at seq out → Goes wrap col at seq out
-  due-goes d = record { inside = d.inside; room = omega (arith, d.rest.place, d.same, goes.room) }
-
-  pub due-front : {col at : ℕ} {out : List ℕ} (a b : List ℕ) → Due wrap col₀ at₀ seq₀ out₀ col at (a ++ b) out → Goes wrap col at a out
-  due-front {col} {at} {out} a b d =
-      let g = due-goes d in
-      record {
-        inside = d.inside;
-        room = omega (arith, g.room, ap length (on-append wrap a b col), length-append (wrap_on wrap col a) (wrap_on wrap (column_on wrap col a) b));
-      }
-
-  -- its front is put
-  pub due-next : {col at : ℕ} {out exit : List ℕ} {r : Column} (a b : List ℕ) → Due wrap col₀ at₀ seq₀ out₀ col at (a ++ b) out
-      → Reached wrap col at a out r exit → length exit ≡ length out → Due wrap col₀ at₀ seq₀ out₀ r.col r.at b exit
-  due-next {col} {at} {out} {exit} {r} a b d p n =
-      let q = column_on wrap col a in
-      let g = due-goes d in
-      let split = on-append wrap a b col in
-      let next : Rest at₀ (wrap_on wrap col₀ seq₀) out₀ r.at (wrap_on wrap q b) exit =
-      rest-next (wrap_on wrap q b) (omega (arith, g.room, ap length split))
-      (subst (λ (t : List ℕ). Rest at₀ (wrap_on wrap col₀ seq₀) out₀ at t out) split d.rest) p.put in
-      record {
-        inside = omega (arith, p.column, column-inside wrap a col d.inside);
-        column = ap (λ (k : ℕ). column_on wrap k b) p.column ∙ sym (column-append wrap a b col) ∙ d.column;
-        rest = subst (λ (k : ℕ). Rest at₀ (wrap_on wrap col₀ seq₀) out₀ r.at (wrap_on wrap k b) exit) (sym p.column) next;
-        same = n ∙ d.same;
-      }
-
-  -- nothing is left
-  pub due-none : {col at : ℕ} {seq out : List ℕ} → Due wrap col₀ at₀ seq₀ out₀ col at seq out → seq ≡ []
-      → Reached wrap col₀ at₀ seq₀ out₀ (column at col) out
-  unfolding wrap_on column_on
-  due-none {col} {at} {seq} {out} d e =
-      let g = due-goes d in
-      record {
-        column = sym (ap (column_on wrap col) e) ∙ d.column;
-        put = rest-none (omega (arith, g.room)) (subst (λ (s : List ℕ). Rest at₀ (wrap_on wrap col₀ seq₀) out₀ at (wrap_on wrap col s) out) e d.rest);
-      }
+-- nothing is left
+pub due-none : {all seq : List ℕ} {first c : Column} → Due all first seq c → length seq ≡ 0 → Reached all first c
+unfolding wrap_on column_on
+due-none {all} {seq} {first} {c} d e =
+    let n = due-as (no_bytes seq e) d in
+    n.reach c (record {
+      put = record { place = omega arith; holds = sym (pasted-none c.at c.out.now (omega (arith, n.goes.room))) };
+      column = refl;
+      wrap = refl;
+      same = refl;
+    })
 
 -- behind the last cut: a line that was begun is ended
 abbrev ending : (col : ℕ) → List ℕ
@@ -287,10 +281,31 @@ module _ (wrap : ℕ) (w : 0 < wrap) (ls : List (List ℕ)) where
           iter-more wrap x s ∙ wrap-line wrap l w (omega arith) ∙ (λ i. take_all wrap l (omega arith) i ++ (10 ∷ none i))
 
 -- room for the text is room for the one-pass form
-pub iter-goes : (wrap at : ℕ) (ls : List (List ℕ)) (out : List ℕ) → 0 < wrap → Fits at (wrap_seq_iter_text wrap ls) out → Goes wrap 0 at (joined ls) out
-iter-goes wrap at ls out w fits =
+pub iter-room : (ls : List (List ℕ)) {c : Column} → 0 < c.wrap → c.col ≡ 0 → Fits c.at (wrap_seq_iter_text c.wrap ls) c.out.now → Goes (joined ls) c
+iter-room ls {c} w fresh fits =
     let s = joined ls in
     record {
-      inside = w;
-      room = first_fits at (wrap_on wrap 0 s) (closing (length s) (column_on wrap 0 s)) out (fits-as at out (iter-parts wrap w ls) fits);
+      inside = omega arith;
+      room = first_fits c.at (wrap_on c.wrap c.col s) (closing (length s) (column_on c.wrap 0 s)) c.out.now
+          (fits-as c.at c.out.now (iter-parts c.wrap w ls ∙ ap (λ (k : ℕ). wrap_on c.wrap k s ++ closing (length s) (column_on c.wrap 0 s)) (sym fresh)) fits);
     }
+
+-- What is put behind the lines: a `\n` if the last line was begun or nothing was put, and else nothing.
+module _ (ls : List (List ℕ)) {c mid : Column} (w : 0 < c.wrap) (fresh : c.col ≡ 0) (p : Reached (joined ls) c mid) where
+  begun : Lays (wrap_on c.wrap 0 (joined ls)) (column_on c.wrap 0 (joined ls)) c mid
+  begun = subst (λ (k : ℕ). Lays (wrap_on c.wrap k (joined ls)) (column_on c.wrap k (joined ls)) c mid) fresh p
+
+  pub iter-ends : (mid.col ≡ 0 → ⊥) ⊎ (mid.at ≡ c.at) → wrap_seq_iter_text c.wrap ls ≡ seq_text (wrap_on c.wrap 0 (joined ls))
+  iter-ends (inl part) = iter-open c.wrap w ls (λ z. part (begun.column ∙ z))
+  iter-ends (inr none) = iter-nothing c.wrap w ls (omega (arith, begun.put.place))
+
+  pub iter-end-room : Fits c.at (wrap_seq_iter_text c.wrap ls) c.out.now → (mid.col ≡ 0 → ⊥) ⊎ (mid.at ≡ c.at) → Ends mid
+  iter-end-room fits e = second_fits (10 ∷ []) (fits-as c.at c.out.now (iter-ends e) fits) begun.put
+
+  pub iter-ended : {new : Column} → Fits c.at (wrap_seq_iter_text c.wrap ls) c.out.now → (mid.col ≡ 0 → ⊥) ⊎ (mid.at ≡ c.at) → Ended mid new
+      → Lays (wrap_seq_iter_text c.wrap ls) 0 c new
+  iter-ended fits e q = lays-as (iter-ends e) refl (lays-both (fits-as c.at c.out.now (iter-ends e) fits) begun q)
+
+  pub iter-whole : mid.col ≡ 0 → (mid.at ≡ c.at → ⊥) → Lays (wrap_seq_iter_text c.wrap ls) 0 c mid
+  iter-whole z some =
+      lays-as (iter-full c.wrap w ls (λ n. some (begun.put.place ∙ omega (arith, n))) (sym begun.column ∙ z)) (sym z ∙ begun.column) begun

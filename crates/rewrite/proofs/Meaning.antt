@@ -1,6 +1,7 @@
 -- A record of an input that stands in the bytes, with the ends of its lines, is written as the input's meaning has it: its head and its lines
 -- anew, or the copy that `write_unchanged` makes. Assumes nothing.
 use Prim.Native.Nat.{ℕ, suc, ◌+◌, ◌-◌, ◌≤◌, ◌<◌}
+use native.Mathlib.Numerals.{add-one}
 use native.Mathlib.Omega.{arith}
 use mathlib.Core.Bool.{Bool, true, false}
 use mathlib.Core.List.{List, [], ◌∷◌, map}
@@ -14,14 +15,14 @@ use Rattle.meaning.specs.Parts.{size, head_of, seq_lines}
 use Rattle.meaning.specs.OnePass.{lines_at}
 use Rattle.meaning.proofs.Ends.{ends_at}
 use Rattle.view.specs.Rising.{Rising}
-use Rattle.view.proofs.Joins.{Others, others-are}
+use Rattle.view.specs.Trimmed.{trimmed_at}
+use Rattle.view.specs.View.{line_of}
 use Rattle.view.proofs.Places.{ends_some}
 use Rattle.view.proofs.Rises.{rises-rising}
 use Rattle.view.proofs.Meaning.{Stands, rises, some_end, cut, head_is}
 use Rattle.write.specs.Output.{filled, wrapped}
 use Rattle.write.specs.Text.{record_text, record_wrap_text, wrap_seq_iter_text, unchanged_text, copy_of}
 use Rattle.rewrite.specs.Rewrite.{of_lines, written_in, wrapped_in, iterated_in, unchanged_in}
-use Rattle.rewrite.specs.Wrap.{lines_of}
 use Rattle.rewrite.proofs.Cases.{unchanged-some}
 use Rattle.rewrite.proofs.Records.{Written, lines-rise}
 
@@ -75,19 +76,18 @@ module _ (X : List ℕ) (start : ℕ) (r : Rec) (ends : List ℕ) (s : Stands X 
   some : 0 < length ends
   some = some_end X start r ends s
 
-  -- the lines behind the head are its sequence lines
-  lines_are : lines_of X (get_or ends 0 0) (Others ends) ≡ seq_lines r
+  -- its lines are the head and the sequence lines
+  lines_are : trimmed_at X (suc start) ends ≡ head_of r ∷ seq_lines r
   unfolding seq_lines lines_at
-  lines_are = go ends (cut X start r ends s) some
+  lines_are = go ends (cut X start r ends s) (head_is X start r ends s) some
     where
-      go : (es : List ℕ) → lines_at X start es ≡ lines r.bytes → 0 < length es → lines_of X (get_or es 0 0) (Others es) ≡ seq_lines r
-      go [] c k = absurd (omega arith)
-      go (e ∷ es) c k = rw (others-are e es) (ap (λ (ls : List (List ℕ)). map trim_cr (drop 1 ls)) c)
+      go : (es : List ℕ) → lines_at X start es ≡ lines r.bytes → line_of X (start + 1) (get_or es 0 0) ≡ head_of r → 0 < length es
+          → trimmed_at X (suc start) es ≡ head_of r ∷ seq_lines r
+      go [] c h k = absurd (omega arith)
+      go (e ∷ es) c h k = let f = rw add-one at h in λ i. f i ∷ map trim_cr (drop 1 (c i))
 
   of-lines : (out : List ℕ) (written : Written) → of_lines X start ends out written ≡ written (head_of r) (seq_lines r)
-  of-lines out written =
-      lines-rise X start ends out written some (rises-rising start ends (length X) (rises X start r ends s))
-      ∙ (λ i. written (head_is X start r ends s i) (lines_are i))
+  of-lines out written = lines-rise X start ends out written (rises-rising start ends (length X) (rises X start r ends s)) lines_are
 
   pub write-is : (out : List ℕ) → written_in X start ends out ≡ filled (record_text (head_of r) (seq_lines r)) out
   unfolding written_in
@@ -118,4 +118,4 @@ module _ (X : List ℕ) (start : ℕ) (r : Rec) (ends : List ℕ) (s : Stands X 
   pub write-unchanged-is : (out : List ℕ) → unchanged_in X start ends out ≡ filled (unchanged_text (copy_of r)) out
   write-unchanged-is out =
       let l = last-rises start ends (length X) (rises X start r ends s) some in
-      unchanged-some X start ends out some l.0 l.1 ∙ ap (λ (c : List ℕ). filled (unchanged_text c) out) copy_is
+      unchanged-some X start ends out some refl l.0 l.1 ∙ ap (λ (c : List ℕ). filled (unchanged_text c) out) copy_is

@@ -18,13 +18,14 @@ use Rattle.meaning.proofs.Bytes.{cut, put, after, recs-cut}
 use Rattle.meaning.proofs.Lines.{lines-nil, lines-lf, lines-on}
 use Rattle.meaning.proofs.OnePass.{seen, marks-records, whole-meaning, Lead, nothing, refusal, start, whole-lead}
 use Rattle.reader.proofs.Sanity.{and-true}
+use Rattle.std.specs.Prelude.{Ok, Err}
 use Rattle.write.specs.Output.{Answer, wrote, refuses, Left, need, filled, wrapped}
 use Rattle.write.specs.Text.{record_text, record_wrap_text, ends_in, unchanged_text, copy_of}
 use Rattle.write.specs.ReadBack.{GoodHead, GoodSeq, ReadsBack}
 use Rattle.write.proofs.ReadBack.{to_back, wrap-iter-back}
 use Rattle.view.proofs.Meaning.{Stands}
 use Rattle.rewrite.specs.Rewrite.{left, WriteIn, WriteWrapIn, WriteUnchangedIn}
-use Rattle.rewrite.specs.declared.Rewrote.TheVariants.{Done, Wrap, Room}
+use Rattle.rewrite.specs.declared.error.RewriteError.TheVariants.{Wrap, Room}
 use Rattle.rewrite.proofs.Meaning.{write-is, write-wrap-is, write-unchanged-is}
 
 -- `write` and `write_wrap`
@@ -295,43 +296,43 @@ written_by (wrote n) = n
 written_by (refuses number values) = 0
 
 -- what a call wrote: the front of the output, as long as it answers
-done-text : (text out : List ℕ) (n : ℕ) (exit : List ℕ) → left (Done n) exit ≡ filled text out → take n exit ≡ text
+done-text : (text out : List ℕ) (n : ℕ) (exit : List ℕ) → left (Ok n) exit ≡ filled text out → take n exit ≡ text
 unfolding filled
 done-text text out n exit e = go (leb (length text) (length out)) refl
   where
     go : (t : Bool) → leb (length text) (length out) ≡ t → take n exit ≡ text
     go true t =
-        let d : left (Done n) exit ≡ left (Done (length text)) (text ++ drop (length text) out) = e ∙ rw t in
+        let d : left (Ok n) exit ≡ left (Ok (length text)) (text ++ drop (length text) out) = e ∙ rw t in
         (λ i. take (written_by (d i).answer) (d i).out) ∙ take_at text (drop (length text) out) (length text) refl
     go false t =
-        let d : left (Done n) exit ≡ left (Room (need text)) out = e ∙ rw t in
+        let d : left (Ok n) exit ≡ left (Err (Room (need text))) out = e ∙ rw t in
         absurd (false≢true (sym (ap (λ (l : Left). is_wrote l.answer) d)))
 
-wrap-text : (wrap : ℕ) (text out : List ℕ) (n : ℕ) (exit : List ℕ) → left (Done n) exit ≡ wrapped wrap text out → (0 < wrap) × (take n exit ≡ text)
+wrap-text : (wrap : ℕ) (text out : List ℕ) (n : ℕ) (exit : List ℕ) → left (Ok n) exit ≡ wrapped wrap text out → (0 < wrap) × (take n exit ≡ text)
 unfolding wrapped
 wrap-text wrap text out n exit e = go (eqb wrap 0) refl
   where
     go : (t : Bool) → eqb wrap 0 ≡ t → (0 < wrap) × (take n exit ≡ text)
     go true t =
-        let d : left (Done n) exit ≡ left Wrap out = e ∙ rw t in
+        let d : left (Ok n) exit ≡ left (Err Wrap) out = e ∙ rw t in
         absurd (false≢true (sym (ap (λ (l : Left). is_wrote l.answer) d)))
     go false t = (let ne = eqb-false wrap 0 t in omega arith, done-text text out n exit (e ∙ rw t))
 
 -- The calls: what they wrote of a record that stands in the bytes reads back.
 module _ (X : List ℕ) (start : ℕ) (r : Rec) (ends : List ℕ) (s : Stands X start r ends) (out : List ℕ) (n : ℕ) (exit : List ℕ) where
-  pub write-in-back : GoodHead (head_of r) → GoodSeq (seq_of r) → WriteIn X start ends out (Done n) exit → ReadsBack (take n exit) (head_of r) (seq_of r)
+  pub write-in-back : GoodHead (head_of r) → GoodSeq (seq_of r) → WriteIn X start ends out (Ok n) exit → ReadsBack (take n exit) (head_of r) (seq_of r)
   write-in-back g w p =
       let e = done-text (record_text (head_of r) (seq_lines r)) out n exit (p ∙ write-is X start r ends s out) in
       rw e (write-back r g w)
 
-  pub write-wrap-in-back : (wrap : ℕ) → GoodHead (head_of r) → GoodSeq (seq_of r) → WriteWrapIn X start ends wrap out (Done n) exit
+  pub write-wrap-in-back : (wrap : ℕ) → GoodHead (head_of r) → GoodSeq (seq_of r) → WriteWrapIn X start ends wrap out (Ok n) exit
       → ReadsBack (take n exit) (head_of r) (seq_of r)
   write-wrap-in-back wrap g w p =
       let e = wrap-text wrap (record_wrap_text (head_of r) (seq_lines r) wrap) out n exit (p ∙ write-wrap-is X start r ends s wrap out) in
       rw e.1 (write-wrap-back r wrap e.0 g w)
 
   pub write-unchanged-in-back : (input : List ℕ) (before behind : List Rec) → meaning input ≡ records (before ++ r ∷ behind)
-      → WriteUnchangedIn X start ends out (Done n) exit → ReadsBack (take n exit) (head_of r) (seq_of r)
+      → WriteUnchangedIn X start ends out (Ok n) exit → ReadsBack (take n exit) (head_of r) (seq_of r)
   write-unchanged-in-back input before behind m p =
       let e = done-text (unchanged_text (copy_of r)) out n exit (p ∙ write-unchanged-is X start r ends s out) in
       rw e (unchanged-back input before r behind m)

@@ -6,32 +6,33 @@ use mathlib.Core.List.{List}
 use mathlib.Core.Path.{◌≡◌, refl, sym, ap, ◌∙◌}
 use lib.ListN.{get_or}
 use lib.Dec.{eqb}
-use Rattle.reader.specs.declared.state.Reader.{Reader}
+use Rattle.std.specs.Prelude.{Result, Ok, Err}
 use Rattle.write.specs.Output.{Answer, wrote, refuses, Left}
-use Rattle.rewrite.specs.Rewrite.{says, left, WriteIn, WriteWrapIn, WriteWrapSeqIter, WriteUnchangedIn}
+use Rattle.reader.specs.declared.state.Reader.{Reader}
 use Rattle.rewrite.specs.Current.{Write, WriteWrap, WriteUnchanged}
-use Rattle.rewrite.specs.declared.Rewrote.{Rewrote}
-use Rattle.rewrite.specs.declared.Rewrote.TheVariants.{Done, NoRecord, Wrap, Room, State}
+use Rattle.rewrite.specs.Rewrite.{says, left, WriteIn, WriteWrapIn, WriteWrapSeqIter, WriteUnchangedIn}
+use Rattle.rewrite.specs.declared.error.RewriteError.{RewriteError}
+use Rattle.rewrite.specs.declared.error.RewriteError.TheVariants.{NoRecord, Wrap, Room, State}
 
 -- a promise allows one answer and one output
-abbrev pub Unique : (Rewrote → List ℕ → Type 0) → Type 0
-Unique P = (r r' : Rewrote) (exit exit' : List ℕ) → P r exit → P r' exit' → (r ≡ r') × (exit ≡ exit')
+abbrev pub Unique : (Result ℕ RewriteError → List ℕ → Type 0) → Type 0
+Unique P = (r r' : Result ℕ RewriteError) (exit exit' : List ℕ) → P r exit → P r' exit' → (r ≡ r') × (exit ≡ exit')
 
 -- the answer that says it
-abbrev answer_of : Answer → Rewrote
-answer_of (wrote n) = Done n
+abbrev answer_of : Answer → Result ℕ RewriteError
+answer_of (wrote n) = Ok n
 answer_of (refuses number values) =
-    cond (eqb number 7) NoRecord (cond (eqb number 10) Wrap (cond (eqb number 9) (Room (get_or values 0 0)) State))
+    Err (cond (eqb number 7) NoRecord (cond (eqb number 10) Wrap (cond (eqb number 9) (Room (get_or values 0 0)) State)))
 
-answer-of : (r : Rewrote) → answer_of (says r) ≡ r
-answer-of (Done n) = refl
-answer-of NoRecord = refl
-answer-of Wrap = refl
-answer-of (Room n) = refl
-answer-of State = refl
+answer-of : (r : Result ℕ RewriteError) → answer_of (says r) ≡ r
+answer-of (Ok n) = refl
+answer-of (Err NoRecord) = refl
+answer-of (Err Wrap) = refl
+answer-of (Err (Room n)) = refl
+answer-of (Err State) = refl
 
 -- one answer and one output for what is said and left
-pub one_left : (x : Left) → Unique (λ (r : Rewrote) (exit : List ℕ). left r exit ≡ x)
+pub one_left : (x : Left) → Unique (λ (r : Result ℕ RewriteError) (exit : List ℕ). left r exit ≡ x)
 one_left x r r' exit exit' p q =
     let e : left r exit ≡ left r' exit' = p ∙ sym q in
     (sym (answer-of r) ∙ ap (λ (l : Left). answer_of l.answer) e ∙ answer-of r', ap (λ (l : Left). l.out) e)

@@ -1,24 +1,21 @@
 -- A record's writers (01, module 3, refusals 11, 10, 9 in this order). The record is given in bytes w by the place of its `>` (start) and
 -- its recorded ends, the head's end first. A refusal leaves the output unchanged. Assumes nothing.
-use Rattle.std.specs.Prelude.{ℕ, suc, ◌-◌, cond, List, [], ◌∷◌, map, ◌≡◌, length, take, drop}
+use Rattle.std.specs.Prelude.{ℕ, Result, Ok, Err, suc, ◌-◌, cond, List, [], ◌∷◌, map, ◌≡◌, length, take, drop}
 use Rattle.meaning.specs.Line.{trim_cr}
 use Rattle.meaning.specs.OnePass.{lines_at}
 use Rattle.view.specs.Rising.{rising}
 use Rattle.view.specs.View.{line_of, last_of}
 use Rattle.write.specs.Output.{Answer, wrote, refuses, Left, filled, wrapped}
 use Rattle.write.specs.Text.{record_text, record_wrap_text, wrap_seq_iter_text, unchanged_text}
-use Rattle.rewrite.specs.declared.Rewrote.{Rewrote}
-use Rattle.rewrite.specs.declared.Rewrote.TheVariants.{Done, NoRecord, Wrap, Room, State}
+use Rattle.rewrite.specs.Refused.{number_of, values_of}
+use Rattle.rewrite.specs.declared.error.RewriteError.{RewriteError}
 
 -- what each answer of the writers says
-abbrev pub says : Rewrote → Answer
-says (Done n) = wrote n
-says NoRecord = refuses 7 []
-says Wrap = refuses 10 []
-says (Room n) = refuses 9 (n ∷ [])
-says State = refuses 11 []
+abbrev pub says : Result ℕ RewriteError → Answer
+says (Ok n) = wrote n
+says (Err error) = refuses (number_of error) (values_of error)
 
-abbrev pub left : Rewrote → List ℕ → Left
+abbrev pub left : Result ℕ RewriteError → List ℕ → Left
 left r exit = record { answer = says r; out = exit }
 
 abbrev pub refused : (number : ℕ) (out : List ℕ) → Left
@@ -55,14 +52,14 @@ unchanged_in w start (e ∷ es) out =
     cond (rising start (last ∷ []) (length w)) (filled (unchanged_text (take (last - start) (drop start w))) out) (refused 11 out)
 
 -- the promises
-abbrev pub WriteIn : (w : List ℕ) (start : ℕ) (ends out : List ℕ) → Rewrote → (exit : List ℕ) → Type 0
+abbrev pub WriteIn : (w : List ℕ) (start : ℕ) (ends out : List ℕ) → Result ℕ RewriteError → (exit : List ℕ) → Type 0
 WriteIn w start ends out r exit = left r exit ≡ written_in w start ends out
 
-abbrev pub WriteWrapIn : (w : List ℕ) (start : ℕ) (ends : List ℕ) (wrap : ℕ) (out : List ℕ) → Rewrote → (exit : List ℕ) → Type 0
+abbrev pub WriteWrapIn : (w : List ℕ) (start : ℕ) (ends : List ℕ) (wrap : ℕ) (out : List ℕ) → Result ℕ RewriteError → (exit : List ℕ) → Type 0
 WriteWrapIn w start ends wrap out r exit = left r exit ≡ wrapped_in w start ends wrap out
 
-abbrev pub WriteWrapSeqIter : (w : List ℕ) (start : ℕ) (ends : List ℕ) (wrap : ℕ) (out : List ℕ) → Rewrote → (exit : List ℕ) → Type 0
+abbrev pub WriteWrapSeqIter : (w : List ℕ) (start : ℕ) (ends : List ℕ) (wrap : ℕ) (out : List ℕ) → Result ℕ RewriteError → (exit : List ℕ) → Type 0
 WriteWrapSeqIter w start ends wrap out r exit = left r exit ≡ iterated_in w start ends wrap out
 
-abbrev pub WriteUnchangedIn : (w : List ℕ) (start : ℕ) (ends out : List ℕ) → Rewrote → (exit : List ℕ) → Type 0
+abbrev pub WriteUnchangedIn : (w : List ℕ) (start : ℕ) (ends out : List ℕ) → Result ℕ RewriteError → (exit : List ℕ) → Type 0
 WriteUnchangedIn w start ends out r exit = left r exit ≡ unchanged_in w start ends out

@@ -1,148 +1,109 @@
 // A record written anew: the head's line, and the sequence lines joined, in one line or cut every `wrap` bytes.
-ghost use Rattle.std.specs.Prelude.{◌≡◌, length};
+ghost use Rattle.std.specs.Prelude.{◌≡◌, ◌<◌, length};
+ghost use Rattle.write.specs.Output.{cut};
 ghost use Rattle.write.specs.Put.{Fits, Put};
+ghost use Rattle.write.specs.Text.{wrap_seq_iter_text};
+ghost use Rattle.view.specs.Trimmed.{lines_left};
 ghost use Rattle.rewrite.specs.Rewrite.{WriteIn, WriteWrapIn, WriteWrapSeqIter};
-ghost use Rattle.rewrite.specs.Wrap.{Measured, Whole, Filled, WriteLines, head_part, wrap_len, Counts};
+ghost use Rattle.rewrite.specs.Wrap.{Lays, Wraps, WriteLines, head_part, wrap_len};
 
-use super::Rewrote;
-use super::wrap::put_wrapped;
+use crate::RewriteError;
+use crate::column::Column;
+use view::{Record, TrimmedLines};
 
 // `>`, the head, `\n`, the joined sequence, `\n`: one line is a line wider than any sequence.
-pub fn write_in(bytes: &[u8], start: usize, ends: &[usize], out: &mut [u8]) -> Rewrote
-    ensures { WriteIn bytes.now start ends.now out.old result out.new }
+pub fn write_in(given: Record, out: &mut [u8]) -> Result<usize, RewriteError>
+    ensures { WriteIn given.entry.bytes.now given.entry.start given.entry.ends.now out.old result out.new }
 {
-    write_lines(bytes, start, ends, true, usize::MAX, out)
+    write_wrap_in(given, usize::MAX, out)
 }
 
 // `>`, the head, `\n`, and the joined sequence in lines of `wrap` bytes.
-pub fn write_wrap_in(
-    bytes: &[u8],
-    start: usize,
-    ends: &[usize],
-    wrap: usize,
-    out: &mut [u8],
-) -> Rewrote
-    ensures { WriteWrapIn bytes.now start ends.now wrap out.old result out.new }
+pub fn write_wrap_in(given: Record, wrap: usize, out: &mut [u8]) -> Result<usize, RewriteError>
+    ensures { WriteWrapIn given.entry.bytes.now given.entry.start given.entry.ends.now wrap out.old result out.new }
 {
-    write_lines(bytes, start, ends, true, wrap, out)
+    let mut lines = given.trimmed_lines().ok_or(RewriteError::State)?;
+    let head = lines.next().ok_or(RewriteError::State)?;
+    write_lines(Some(head), lines, wrap, out)
 }
 
 // The joined sequence alone in lines of `wrap` bytes, one `\n` if it is empty.
 pub fn write_wrap_seq_iter(
-    bytes: &[u8],
-    start: usize,
-    ends: &[usize],
+    given: Record,
     wrap: usize,
     out: &mut [u8],
-) -> Rewrote
-    ensures { WriteWrapSeqIter bytes.now start ends.now wrap out.old result out.new }
+) -> Result<usize, RewriteError>
+    ensures { WriteWrapSeqIter given.entry.bytes.now given.entry.start given.entry.ends.now wrap
+        out.old result out.new }
 {
-    write_lines(bytes, start, ends, false, wrap, out)
+    let mut lines = given.trimmed_lines().ok_or(RewriteError::State)?;
+    lines.next().ok_or(RewriteError::State)?;
+    write_lines(None, lines, wrap, out)
 }
 
-// The head's line where it is asked for, and the lines in lines of `wrap` bytes. 11 is tested before 10.
+// The head's line, where there is a head, and the lines joined and cut: refusal 10, 9, or the text.
 fn write_lines(
-    bytes: &[u8],
-    start: usize,
-    ends: &[usize],
-    with_head: bool,
+    head: Option<&[u8]>,
+    lines: TrimmedLines,
     wrap: usize,
     out: &mut [u8],
-) -> Rewrote
-    ensures { WriteLines bytes.now start ends.now with_head wrap out.old result out.new }
+) -> Result<usize, RewriteError>
+    ensures { WriteLines head.entry (lines_left lines.entry) wrap out.old result out.new }
 {
-    if ends.len() == 0 {
-        return Rewrote::State;
-    }
-    let all = measure(bytes, start, ends);
-    if !all.rising {
-        return Rewrote::State;
-    }
     if wrap == 0 {
-        return Rewrote::Wrap;
+        return Err(RewriteError::Wrap);
     }
-    fill(bytes, start, ends, with_head, wrap, all.len, out)
-}
-
-// The same once the ends and the width are tested, and the length of head and lines together is known: 9, or the text.
-fn fill(
-    bytes: &[u8],
-    start: usize,
-    ends: &[usize],
-    with_head: bool,
-    wrap: usize,
-    len: usize,
-    out: &mut [u8],
-) -> Rewrote
-    requires { Whole bytes.now start ends.now wrap len }
-    ensures { Filled bytes.now start ends.now with_head wrap out.old result out.new }
-{
-    let end = ends[0];
-    let head = scan::trim_cr(&bytes[start + 1..end]);
-    let need = head_len(with_head, head) + wrap_len(len - head.len(), wrap);
+    let need = head_len(head).saturating_add(wrap_len(lines.joined_len(), wrap));
     if out.len() < need {
-        return Rewrote::Room(need);
+        return Err(RewriteError::Room(need));
     }
-    let at = put_head(with_head, head, out);
-    Rewrote::Done(put_wrapped(bytes, end, &ends[1..], wrap, out, at))
+    let at = put_head(head, out);
+    let mut column = Column {
+        out,
+        wrap,
+        at,
+        col: 0,
+    };
+    put_lines(lines, &mut column);
+    Ok(column.at)
 }
 
-// The length of the head's line, where it is asked for.
-fn head_len(with_head: bool, head: &[u8]) -> usize
-    ensures { result ≡ length (head_part with_head head.now) }
+// The length of the head's line, where there is a head.
+fn head_len(head: Option<&[u8]>) -> usize
+    ensures { result ≡ length (head_part head.entry) }
 {
-    if with_head { head.len() + 2 } else { 0 }
+    head.map_or(0, |head| head.len() + 2)
 }
 
 // The length of `n` joined bytes in lines of `wrap` bytes, of which there is one at least.
 fn wrap_len(n: usize, wrap: usize) -> usize
-    requires { Counts n wrap }
-    ensures { result ≡ wrap_len wrap n }
+    requires { 0 < wrap }
+    ensures { result ≡ cut (wrap_len wrap n) }
 {
-    if n == 0 { 1 } else { n + ((n - 1) / wrap + 1) }
+    n.saturating_add(n.div_ceil(wrap).max(1))
 }
 
-// The head's line at the front, where it is asked for. Answers the place behind it.
-fn put_head(with_head: bool, head: &[u8], out: &mut [u8]) -> usize
-    requires { Fits 0 (head_part with_head head.now) out.old }
-    ensures { Put 0 (head_part with_head head.now) out.old result out.new }
+// The head's line at the front, where there is a head. Answers the place behind it.
+fn put_head(head: Option<&[u8]>, out: &mut [u8]) -> usize
+    requires { Fits 0 (head_part head) out.old }
+    ensures { Put 0 (head_part head.entry) out.old result out.new }
 {
-    if with_head {
-        write::write_head(head, out);
-        return head.len() + 2;
+    match head {
+        Some(head) => write::write_head(head, out).unwrap(),
+        None => 0,
     }
-    0
 }
 
-// Whether some ends are rising, and if so the length of their lines together, each trimmed.
-#[derive(Clone, Copy)]
-struct Joined {
-    rising: bool,
-    len: usize,
-}
-
-fn measure(bytes: &[u8], place: usize, ends: &[usize]) -> Joined
-    ensures { Measured bytes.now place ends.now result }
+// The lines joined, with a `\n` at each cut and behind the last line, and one if there is nothing.
+fn put_lines(lines: TrimmedLines, column: &mut Column)
+    requires { Wraps (lines_left lines) column.old }
+    ensures { Lays (wrap_seq_iter_text column.old.wrap (lines_left lines.entry)) 0 column.old column.new }
 {
-    let mut n = 0;
-    let mut last = place;
-    let mut i = 0;
-    while i < ends.len() {
-        let to = ends[i];
-        if to <= last || bytes.len() < to {
-            return Joined {
-                rising: false,
-                len: 0,
-            };
-        }
-        let from = last + 1;
-        let line = scan::trim_cr(&bytes[from..to]);
-        n += line.len();
-        last = to;
-        i += 1;
+    let from = column.at;
+    for line in lines {
+        column.put_line(line);
     }
-    Joined {
-        rising: true,
-        len: n,
+    if column.col != 0 || column.at == from {
+        column.end_line();
     }
 }

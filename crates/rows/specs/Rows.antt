@@ -1,6 +1,6 @@
 -- What the functions that write the program's text answer and leave (01, module 10, refusal 9): the text in the output from a place on and the
 -- rest as it was, or the need and the output unchanged. The texts themselves are those of `write`, Listing.antt. Assumes nothing.
-use Rattle.std.specs.Prelude.{ℕ, ◌+◌, ◌-◌, cond, List, [], ◌∷◌, ◌≡◌, length, get_or, leb}
+use Rattle.std.specs.Prelude.{ℕ, Result, Ok, Err, ◌+◌, ◌-◌, cond, List, [], ◌∷◌, ◌≡◌, length, get_or, leb}
 use Rattle.scan.specs.Move.{pasted}
 use Rattle.write.specs.Output.{wrote, refuses, Left, need}
 use Rattle.write.specs.Output as output
@@ -15,15 +15,15 @@ use Rattle.view.specs.Full.{Whole, window, front, full_in}
 use Rattle.view.specs.Full as full
 use Rattle.view.specs.Current.{of_current, refused}
 use Rattle.view.specs.declared.Full.{Full}
-use Rattle.rows.specs.declared.Told.{Told}
-use Rattle.rows.specs.declared.Told.TheVariants.{Done, Room}
+use Rattle.view.specs.declared.error.FullError.{FullError}
+use Rattle.rows.specs.declared.room.Room.{Room}
 
 -- what each answer says: the place behind the text, or refusal 9 with the need
-abbrev pub says : Told → output.Answer
-says (Done n) = wrote n
-says (Room n) = refuses 9 (n ∷ [])
+abbrev pub says : Result ℕ Room → output.Answer
+says (Ok n) = wrote n
+says (Err room) = refuses 9 (room.0 ∷ [])
 
-abbrev pub left : Told → List ℕ → Left
+abbrev pub left : Result ℕ Room → List ℕ → Left
 left r exit = record { answer = says r; out = exit }
 
 -- the text from a place on, or refusal 9
@@ -57,14 +57,14 @@ abbrev pub row_in : Reader → Position → (w ends : List ℕ) → List ℕ
 row_in r p w ends = row_of p.line p.byte.0 (shown_in w (of_current r w ends id_in refused)) (length_in r w ends)
 
 -- the promises
-abbrev pub PutRow : (line byte : ℕ) (id : List ℕ) (len : ℕ) (out : List ℕ) (at : ℕ) → Told → (exit : List ℕ) → Type 0
+abbrev pub PutRow : (line byte : ℕ) (id : List ℕ) (len : ℕ) (out : List ℕ) (at : ℕ) → Result ℕ Room → (exit : List ℕ) → Type 0
 PutRow line byte id len out at r exit = left r exit ≡ filled_at at (row_of line byte id len) out
 
-abbrev pub PutLast : Answer → (out : List ℕ) (at : ℕ) → Told → (exit : List ℕ) → Type 0
+abbrev pub PutLast : Answer → (out : List ℕ) (at : ℕ) → Result ℕ Room → (exit : List ℕ) → Type 0
 PutLast a out at r exit = left r exit ≡ filled_at at (last_text (said_by a)) out
 
-abbrev pub FullLen : Full → (r : ℕ) → Type 0
+abbrev pub FullLen : Result Full FullError → (r : ℕ) → Type 0
 FullLen f r = r ≡ length_of (full.says f)
 
-abbrev pub PutRecord : Reader → Position → (w ends out : List ℕ) (at : ℕ) → Told → (exit : List ℕ) → Type 0
+abbrev pub PutRecord : Reader → Position → (w ends out : List ℕ) (at : ℕ) → Result ℕ Room → (exit : List ℕ) → Type 0
 PutRecord reader p w ends out at r exit = left r exit ≡ filled_at at (row_in reader p w ends) out

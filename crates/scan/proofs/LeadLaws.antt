@@ -1,20 +1,16 @@
--- Laws of the blank lead: what it does at one place, and what its answer is. Assumes nothing.
-use Prim.Native.Nat.{ℕ, zero, suc, ◌+◌, ◌≤◌, ◌<◌}
+-- Laws of the blank lead: what it does with the bytes from one place on, and what its answer is. Assumes nothing.
+use Prim.Native.Nat.{ℕ, suc, ◌+◌, ◌≤◌, ◌<◌}
 use native.Mathlib.Decide.{dec_le}
-use native.Mathlib.Nat.{eq-or-lt_of_le}
 use native.Mathlib.Numerals.{add-one}
 use native.Mathlib.Omega.{arith}
 use mathlib.Core.Bool.{Bool, true, false, ◌&&◌, false≢true}
 use mathlib.Core.List.{List, [], ◌∷◌}
-use mathlib.Core.Logic.{⊎_elim}
 use mathlib.Core.Path.{◌≡◌, refl, sym, ap, subst, ◌∙◌}
-use lib.ListN.{length, drop, get_or, drop_of_length-le}
-use lib.Seq.{drop-cons}
+use lib.ListN.{length, take, drop, get_or, drop_of_length-le, length-drop}
 use lib.Dec.{eqb}
-use borrow.Author.Tests.{eq-eqb, ne_eqb, eqb-true, eqb-false}
+use borrow.Author.Tests.{eq-eqb, ne_eqb, eqb-true}
 use Rattle.scan.specs.declared.line.Blank.{Blank}
 use Rattle.scan.specs.Search.{Lead, blank, lead_at}
-use Rattle.scan.proofs.LineLaws.{one, two}
 
 -- the clauses of the definition
 pub clause-one :
@@ -33,98 +29,60 @@ pub clause-two :
 unfolding lead_at
 clause-two x y r i n = refl
 
-module _ (s : List ℕ) where
-  -- the lead at place i behind n blank lines
-  abbrev at : (i n : ℕ) → Blank
-  at i n = lead_at (drop i s) i n
+-- nothing is left
+pub lead-none : (i n : ℕ) → lead_at [] i n ≡ blank i n true
+unfolding lead_at
+lead-none i n = refl
 
-  pub lead-past : (i n : ℕ) → length s ≤ i → at i n ≡ blank i n true
-  unfolding lead_at
-  lead-past i n h = rw (drop_of_length-le s {i = i} h)
+-- an empty line is passed
+pub lead-empty : (l : List ℕ) (i n : ℕ) → 10 ∷ [] ≡ take 1 l → lead_at l i n ≡ lead_at (drop 1 l) (i + 1) (n + 1)
+lead-empty [] i n e = absurd (omega (arith, ap length e))
+lead-empty (x ∷ []) i n e =
+    let h : x ≡ 10 = ap (λ (t : List ℕ). get_or t 0 0) (sym e) in
+    rw (clause-one, eq-eqb x 10 h, lead-none, add-one i, add-one n)
+lead-empty (x ∷ y ∷ r) i n e =
+    let h : x ≡ 10 = ap (λ (t : List ℕ). get_or t 0 0) (sym e) in
+    rw (clause-two, eq-eqb x 10 h, add-one i, add-one n)
 
-  pub lead-empty : (i n : ℕ) → i < length s → get_or s i 0 ≡ 10 → at i n ≡ at (i + 1) (n + 1)
-  lead-empty i n h x =
-      let k : i + 1 ≤ length s = omega arith in
-      ⊎_elim tip inner (eq-or-lt_of_le k)
-    where
-      tip : i + 1 ≡ length s → at i n ≡ at (i + 1) (n + 1)
-      tip q =
-          rw (one s i q, clause-one, eq-eqb (get_or s i 0) 10 x, lead-past (i + 1) (n + 1) (omega arith), add-one i, add-one n)
+-- so is a line that is a `\r`
+pub lead-cr : (l : List ℕ) (i n : ℕ) → 13 ∷ (10 ∷ []) ≡ take 2 l → lead_at l i n ≡ lead_at (drop 2 l) (i + 2) (n + 1)
+lead-cr [] i n e = absurd (omega (arith, ap length e))
+lead-cr (x ∷ []) i n e = absurd (omega (arith, ap length e))
+lead-cr (x ∷ y ∷ r) i n e =
+    let h : x ≡ 13 = ap (λ (t : List ℕ). get_or t 0 0) (sym e) in
+    let k : y ≡ 10 = ap (λ (t : List ℕ). get_or t 1 0) (sym e) in
+    let two : i + 2 ≡ suc (suc i) = omega arith in
+    rw (clause-two, ne_eqb x 10 (λ z. omega arith), eq-eqb x 13 h, eq-eqb y 10 k, two, add-one n)
 
-      inner : i + 1 < length s → at i n ≡ at (i + 1) (n + 1)
-      inner q =
-          rw (two s i q, clause-two, eq-eqb (get_or s i 0) 10 x)
-          (sym (ap (λ (l : List ℕ). lead_at l (suc i) (suc n)) (drop-cons s (i + 1) 0 q)) ∙ rw (add-one i, add-one n))
-
-  pub lead-other : (i n : ℕ) → i < length s → (get_or s i 0 ≡ 10 → ⊥) → (get_or s i 0 ≡ 13 → ⊥) → at i n ≡ blank i n false
-  lead-other i n h x y =
-      let k : i + 1 ≤ length s = omega arith in
-      ⊎_elim
-      (λ q. rw (one s i q, clause-one, ne_eqb (get_or s i 0) 10 x, ne_eqb (get_or s i 0) 13 y))
-      (λ q. rw (two s i q, clause-two, ne_eqb (get_or s i 0) 10 x, ne_eqb (get_or s i 0) 13 y))
-      (eq-or-lt_of_le k)
-
-  -- a `\r` is no `\n`
-  cr : (i : ℕ) → get_or s i 0 ≡ 13 → eqb (get_or s i 0) 10 ≡ false
-  cr i x = ne_eqb (get_or s i 0) 10 (λ y. omega arith)
-
-  pub lead-cr-last : (i n : ℕ) → i + 1 ≡ length s → get_or s i 0 ≡ 13 → at i n ≡ blank i n true
-  lead-cr-last i n h x = rw (one s i h, clause-one, cr i x, eq-eqb (get_or s i 0) 13 x)
-
-  pub lead-cr-other :
-      (i n : ℕ) → i + 1 < length s → get_or s i 0 ≡ 13 → (get_or s (i + 1) 0 ≡ 10 → ⊥) → at i n ≡ blank i n false
-  lead-cr-other i n h x y = rw (two s i h, clause-two, cr i x, eq-eqb (get_or s i 0) 13 x, ne_eqb (get_or s (i + 1) 0) 10 y)
-
-  pub lead-cr : (i n : ℕ) → i + 1 < length s → get_or s i 0 ≡ 13 → get_or s (i + 1) 0 ≡ 10 → at i n ≡ at (i + 1 + 1) (n + 1)
-  lead-cr i n h x y =
-      rw (two s i h, clause-two, cr i x, eq-eqb (get_or s i 0) 13 x, eq-eqb (get_or s (i + 1) 0) 10 y)
-      (rw (add-one (i + 1), add-one i, add-one n))
-
-  -- A fact of answers holds of every lead if it holds of each answer given at once, and goes back over each blank line.
-  lead-along :
-      (P : (i n : ℕ) → Blank → Type 0) →
-      ((i n : ℕ) → length s ≤ i → P i n (blank i n true)) →
-      ((i n : ℕ) (b : Bool) → i < length s → (b ≡ true → length s ≤ i + 1) → P i n (blank i n b)) →
-      ((i j n : ℕ) (r : Blank) → i < j → j ≤ length s → P j (n + 1) r → P i n r) →
-      (i n : ℕ) →
-      P i n (at i n)
-  lead-along P past stop line i n = within (length s) i n (omega arith)
-    where
-      Here : (i n : ℕ) → Type 0
-      Here i n = P i n (at i n)
-
-      turn :
-          (i n : ℕ) →
-          i < length s →
-          Dec (length s ≤ i + 1) →
-          (t u v : Bool) →
-          eqb (get_or s i 0) 10 ≡ t →
-          eqb (get_or s i 0) 13 ≡ u →
-          eqb (get_or s (i + 1) 0) 10 ≡ v →
-          ((k : ℕ) → i < k → Here k (n + 1)) →
-          Here i n
-      turn i n h d true u v x y z next =
-          rw (lead-empty i n h (eqb-true (get_or s i 0) 10 x)) (line i (i + 1) n _ (omega arith) (omega arith) (next (i + 1) (omega arith)))
-      turn i n h d false false v x y z next =
-          rw (lead-other i n h (eqb-false (get_or s i 0) 10 x) (eqb-false (get_or s i 0) 13 y)) (stop i n false h (λ e. absurd (false≢true e)))
-      turn i n h (yes k) false true v x y z next =
-          rw (lead-cr-last i n (omega arith) (eqb-true (get_or s i 0) 13 y)) (stop i n true h (λ e. k))
-      turn i n h (no k) false true false x y z next =
-          rw (lead-cr-other i n (omega arith) (eqb-true (get_or s i 0) 13 y) (eqb-false (get_or s (i + 1) 0) 10 z))
-          (stop i n false h (λ e. absurd (false≢true e)))
-      turn i n h (no k) false true true x y z next =
-          rw (lead-cr i n (omega arith) (eqb-true (get_or s i 0) 13 y) (eqb-true (get_or s (i + 1) 0) 10 z))
-          (line i (i + 1 + 1) n _ (omega arith) (omega arith) (next (i + 1 + 1) (omega arith)))
-
-      within : (k i n : ℕ) → length s ≤ k + i → Here i n
-      within zero i n h = rw (lead-past i n (omega arith)) (past i n (omega arith))
-      within (suc k) i n h = go (dec_le (length s) i) (within k)
-        where
-          go : Dec (length s ≤ i) → ((j n : ℕ) → length s ≤ k + j → Here j n) → Here i n
-          go (yes u) next = rw (lead-past i n u) (past i n u)
-          go (no u) next =
-              turn i n (omega arith) (dec_le (length s) (i + 1)) (eqb (get_or s i 0) 10) (eqb (get_or s i 0) 13) (eqb (get_or s (i + 1) 0) 10)
-              refl refl refl (λ j l. next j (n + 1) (omega arith))
+-- any other line ends the lead, and a last `\r` leaves it undecided
+pub lead-other :
+    (l : List ℕ) (i n : ℕ) (t : Bool) →
+    0 < length l →
+    (10 ∷ [] ≡ take 1 l → ⊥) →
+    (13 ∷ (10 ∷ []) ≡ take 2 l → ⊥) →
+    (t ≡ true → l ≡ 13 ∷ []) →
+    (t ≡ false → l ≡ 13 ∷ [] → ⊥) →
+    lead_at l i n ≡ blank i n t
+lead-other [] i n t h a b c d = absurd (omega arith)
+lead-other (x ∷ []) i n t h a b c d =
+    let other : eqb x 10 ≡ false = ne_eqb x 10 (λ e. a (ap (λ (z : ℕ). z ∷ []) (sym e))) in
+    rw (clause-one, other) (ap (blank i n) (last t c d))
+  where
+    last : (t : Bool) → (t ≡ true → x ∷ [] ≡ 13 ∷ []) → (t ≡ false → x ∷ [] ≡ 13 ∷ [] → ⊥) → eqb x 13 ≡ t
+    last true c d = eq-eqb x 13 (ap (λ (t : List ℕ). get_or t 0 0) (c refl))
+    last false c d = ne_eqb x 13 (λ e. d refl (ap (λ (z : ℕ). z ∷ []) e))
+lead-other (x ∷ y ∷ r) i n true h a b c d = absurd (omega (arith, ap length (c refl)))
+lead-other (x ∷ y ∷ r) i n false h a b c d =
+    let other : eqb x 10 ≡ false = ne_eqb x 10 (λ e. a (ap (λ (z : ℕ). z ∷ []) (sym e))) in
+    rw (clause-two, other) (go (eqb x 13) refl (eqb y 10) refl)
+  where
+    go :
+        (u : Bool) → eqb x 13 ≡ u → (v : Bool) → eqb y 10 ≡ v →
+        elim (eqb x 13 && eqb y 10) [ true ↦ lead_at r (suc (suc i)) (suc n) | false ↦ blank i n false ] ≡ blank i n false
+    go false e v f = rw e
+    go true e false f = rw (e, f)
+    go true e true f =
+        absurd (b (sym (ap (λ (z : ℕ). z ∷ (y ∷ [])) (eqb-true x 13 e) ∙ ap (λ (z : ℕ). 13 ∷ (z ∷ [])) (eqb-true y 10 f))))
 
 -- what a lead at place i behind n blank lines answers
 pub record Led (bytes : List ℕ) (i n : ℕ) (r : Blank) : Type 0 where
@@ -133,14 +91,47 @@ pub record Led (bytes : List ℕ) (i n : ℕ) (r : Blank) : Type 0 where
   pub decided : r.undecided ≡ false → r.at < length bytes
   pub at_last : r.undecided ≡ true → length bytes ≤ r.at + 1
 
-led : (bytes : List ℕ) (i n : ℕ) → Led bytes i n (lead_at (drop i bytes) i n)
-led bytes =
-    lead-along bytes (Led bytes)
-    (λ i n h. record { apart = omega arith; within = λ k. k; decided = λ e. absurd (false≢true (sym e)); at_last = λ e. omega arith })
-    (λ i n b h l. record { apart = omega arith; within = λ k. k; decided = λ e. h; at_last = l })
-    (λ i j n r h k f.
-    record { apart = omega arith; within = λ l. f.within (omega arith); decided = f.decided; at_last = f.at_last })
+module _ (bytes : List ℕ) where
+  -- behind the bytes and at their end
+  ended : (i n : ℕ) → length bytes ≤ i → Led bytes i n (blank i n true)
+  ended i n h = record { apart = omega arith; within = λ k. k; decided = λ e. absurd (false≢true (sym e)); at_last = λ e. omega arith }
+
+  -- a line that is not blank, or may not be
+  stopped : (i n : ℕ) (t : Bool) → i < length bytes → (t ≡ true → length bytes ≤ i + 1) → Led bytes i n (blank i n t)
+  stopped i n t h l = record { apart = omega arith; within = λ k. k; decided = λ e. h; at_last = l }
+
+  -- a blank line
+  passed : (i j n : ℕ) (r : Blank) → i < j → j ≤ length bytes → Led bytes j (suc n) r → Led bytes i n r
+  passed i j n r h k f =
+      record { apart = omega (arith, f.apart); within = λ l. f.within (omega arith); decided = f.decided; at_last = f.at_last }
+
+  led : (l : List ℕ) (i n : ℕ) → i + length l ≡ length bytes → Led bytes i n (lead_at l i n)
+  led [] i n h = rw lead-none (ended i n (omega arith))
+  led (x ∷ []) i n h = rw clause-one (go (eqb x 10))
+    where
+      go : (t : Bool) → Led bytes i n (elim t [ true ↦ blank (suc i) (suc n) true | false ↦ blank i n (eqb x 13) ])
+      go true = passed i (suc i) n _ (omega arith) (omega arith) (ended (suc i) (suc n) (omega arith))
+      go false = stopped i n (eqb x 13) (omega arith) (λ e. omega arith)
+  led (x ∷ y ∷ r) i n h =
+      rw clause-two (go (eqb x 10) (eqb x 13 && eqb y 10) (led (y ∷ r) (suc i) (suc n) (omega arith)) (led r (suc (suc i)) (suc n) (omega arith)))
+    where
+      go :
+          (t u : Bool) →
+          Led bytes (suc i) (suc n) (lead_at (y ∷ r) (suc i) (suc n)) →
+          Led bytes (suc (suc i)) (suc n) (lead_at r (suc (suc i)) (suc n)) →
+          Led bytes i n
+          (elim t [
+            | true ↦ lead_at (y ∷ r) (suc i) (suc n)
+            | false ↦ elim u [ true ↦ lead_at r (suc (suc i)) (suc n) | false ↦ blank i n false ]
+          ])
+      go true u f g = passed i (suc i) n _ (omega arith) (omega arith) f
+      go false true f g = passed i (suc (suc i)) n _ (omega arith) (omega arith) g
+      go false false f g = stopped i n false (omega arith) (λ e. absurd (false≢true e))
 
 -- what `lead` answers
 pub lead-led : (bytes : List ℕ) (from : ℕ) (r : Blank) → Lead bytes from r → Led bytes from 0 r
-lead-led bytes from r is = subst (Led bytes from 0) (sym is) (led bytes from 0)
+lead-led bytes from r is = subst (Led bytes from 0) (sym is) (go (dec_le (length bytes) from))
+  where
+    go : Dec (length bytes ≤ from) → Led bytes from 0 (lead_at (drop from bytes) from 0)
+    go (yes h) = rw (drop_of_length-le bytes {i = from} h, lead-none) (ended bytes from 0 h)
+    go (no h) = led bytes (drop from bytes) from 0 (omega (arith, length-drop from bytes))

@@ -1,5 +1,4 @@
 -- Laws of the leaves: a turn of each loop, and what callers cite.
-pub mod BlockLaws
 pub mod LeadLaws
 pub mod LineLaws
 pub mod MoveLaws

@@ -10,7 +10,7 @@ use mathlib.Core.List.{List, [], ◌∷◌, ◌++◌, append_assoc, append-nil}
 use mathlib.Core.Logic.{◌⊎◌, inl, inr, ⊎_elim}
 use mathlib.Core.Path.{◌≡◌, refl, sym, ap, subst, ◌∙◌}
 use lib.ListN.{length, take, drop, get_or, set, drop_of_length-le, length-set}
-use lib.Seq.{drop-cons, take-suc-set, get_or-set_same, take-take, take_at, length-take-le}
+use lib.Seq.{drop-cons, take-suc-set, get_or-set_same}
 use lib.Dec.{eqb, leb}
 use borrow.Author.Tests.{eq-eqb, ne_eqb, le-leb, lt-leb, eqb-true, eqb-false}
 use Rattle.scan.specs.declared.ends.Searched.{Searched}
@@ -373,11 +373,3 @@ module _ (bytes : List ℕ) (mark limit : ℕ) where
 
       pub search-stopped : Stopped bytes count limit mark r exit r.stop
       search-stopped = both.1
-
-      -- the ends recorded before stay
-      pub search-kept : take count exit ≡ take count ends
-      search-kept =
-          let f = both.0 in
-          sym (take-take count r.count exit (omega arith))
-          ∙ ap (take count) f.recorded
-          ∙ take_at (take count ends) f.fresh count (length-take-le count ends (omega arith))

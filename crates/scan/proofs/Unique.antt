@@ -4,7 +4,6 @@ use mathlib.Core.List.{List}
 use mathlib.Core.Path.{◌≡◌, sym, ap, ◌∙◌}
 use Rattle.scan.specs.Scan.{LineEnd, TrimCr}
 use Rattle.scan.specs.Move.{MoveDown, MoveEnds, Copy}
-use Rattle.scan.specs.Move.{MoveDown, MoveEnds}
 use Rattle.scan.specs.Search.{Recorded, Search, Lead}
 use Rattle.scan.specs.declared.ends.Searched.{Searched}
 use Rattle.scan.specs.declared.line.Blank.{Blank}
@@ -33,7 +32,7 @@ pub move-ends-unique :
 move-ends-unique count by ends r s = same-as
 
 pub copy-unique :
-    (at : ℕ) (src out r s : List ℕ) →
+    {A : Type 0} (at : ℕ) (src out r s : List A) →
     Copy at src out r →
     Copy at src out s →
     r ≡ s

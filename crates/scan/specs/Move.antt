@@ -13,7 +13,7 @@ moved_ends count by ends =
     cond (leb count (length ends)) (map (λ (e : ℕ). e - by) (take count ends) ++ drop count ends) ends
 
 -- `src` in place of as many bytes from `at` on, the others as they were
-unfoldable pub pasted : (at : ℕ) (src out : List ℕ) → List ℕ
+unfoldable pub pasted : {A : Type 0} → (at : ℕ) (src out : List A) → List A
 pasted at src out =
     cond (leb (at + length src) (length out)) (take at out ++ (src ++ drop (at + length src) out)) out
 
@@ -24,5 +24,5 @@ MoveDown from to w exit = exit ≡ moved_down from to w
 abbrev pub MoveEnds : (count by : ℕ) (ends exit : List ℕ) → Type 0
 MoveEnds count by ends exit = exit ≡ moved_ends count by ends
 
-abbrev pub Copy : (at : ℕ) (src out exit : List ℕ) → Type 0
+abbrev pub Copy : {A : Type 0} → (at : ℕ) (src out exit : List A) → Type 0
 Copy at src out exit = exit ≡ pasted at src out

@@ -20,8 +20,8 @@ pub struct Searched {
     pub stop: Stop,
 }
 
-// The ends of lines from `from` on are recorded behind the first `count`, `limit` at most, up to a `\n` behind which `mark` stands. A
-// `\n` that is the last byte is not recorded: what follows it is not known.
+// The ends of lines from `from` on are recorded behind the first `count`, `limit` at most, up to a `\n` behind which
+// `mark` stands. A `\n` that is the last byte is not recorded: what follows it is not known.
 pub fn search(
     bytes: &[u8],
     ends: &mut [usize],
@@ -32,29 +32,40 @@ pub fn search(
 ) -> Searched
     ensures { Search bytes.now from count limit mark ends.old result ends.new }
 {
-    let mut i = from;
-    let mut n = count;
-    while i < bytes.len() {
-        let end = line_end(bytes, i);
+    let mut at = from;
+    let mut count = count;
+    // From line end to line end: a `for` has no such steps, and the place and the count are answered wherever it stops.
+    while at < bytes.len() {
+        let end = line_end(bytes, at);
         let next = end + 1;
         if bytes.len() <= next {
-            return stopped(end, n, Stop::Filled);
+            return Searched {
+                at: end,
+                count,
+                stop: Stop::Filled,
+            };
         }
-        if limit <= n || ends.len() <= n {
-            return stopped(end, n, Stop::Full);
+        if limit <= count || ends.len() <= count {
+            return Searched {
+                at: end,
+                count,
+                stop: Stop::Full,
+            };
         }
-        ends[n] = end;
-        n += 1;
-        if bytes[next] == mark {
-            return stopped(next, n, Stop::Record);
+        ends[count] = end;
+        count += 1;
+        at = next;
+        if bytes[at] == mark {
+            return Searched {
+                at,
+                count,
+                stop: Stop::Record,
+            };
         }
-        i = next;
     }
-    stopped(i, n, Stop::Filled)
-}
-
-fn stopped(at: usize, count: usize, stop: Stop) -> Searched
-    ensures { result ≡ stopped_at at count stop }
-{
-    Searched { at, count, stop }
+    Searched {
+        at,
+        count,
+        stop: Stop::Filled,
+    }
 }

@@ -1,8 +1,7 @@
-// Leaves over bytes and line ends (01, module 2, and the leaves of module 4). Each is total: it tests its bounds once a call, and its
-// definition says what happens outside them.
+// Leaves over bytes and line ends (01, module 2, and the leaves of module 4). Each is total: it tests its bounds once a
+// call, and its definition says what happens outside them.
 #![tactic(auto)]
 
-mod blocks;
 mod ends;
 mod line;
 mod moves;

@@ -1,72 +1,45 @@
 // Lines in bytes: where one ends, what of it is shown, and the blank ones that lead an input.
-ghost use Rattle.std.specs.Prelude.{◌≡◌};
-ghost use Rattle.scan.specs.Scan.{TrimCr, LineEnd};
+ghost use Rattle.std.specs.Prelude.{◌≡◌, ◌+◌, ◌<◌};
+ghost use Rattle.scan.specs.Scan.{TrimCr, LineEnd, line_end};
 ghost use Rattle.scan.specs.Search.{Lead, blank};
 
-use crate::blocks::{any8, any32};
-use crate::moves::less;
-
 // A line without its trailing `\r`, if it has one: the line itself or the part before that `\r`.
-pub fn trim_cr<'a>(line: &'a [u8]) -> &'a [u8]
+#[tactic(auto, using(crate::proofs::LineLaws::trims))]
+pub fn trim_cr(line: &[u8]) -> &[u8]
     ensures { TrimCr line.now result.now }
 {
-    let n = line.len();
-    if n == 0 {
-        return line;
+    match line.split_last() {
+        Some((b'\r', before)) => before,
+        _ => line,
     }
-    let last = n - 1;
-    if line[last] == b'\r' {
-        return &line[..last];
-    }
-    line
 }
 
-// The place of the first `\n` at or behind `from`, or the end of the bytes. Blocks of 32 bytes without a `\n` are passed at once, then blocks of
-// eight.
+// The place of the first `\n` at or behind `from`, or the end of the bytes. Bytes without a `\n` are passed in blocks
+// of 32, of eight, then one by one. With the kit's memchr `list` takes 1.05 times as long on records of nine bytes.
 pub fn line_end(bytes: &[u8], from: usize) -> usize
     ensures { LineEnd bytes.now from result }
 {
-    let stop = less(bytes.len(), 31);
-    let mut i = from;
-    while i < stop {
-        if any32(bytes, i) {
-            return line_end_by_8(bytes, i);
-        }
-        i += 32;
-    }
-    line_end_by_8(bytes, i)
+    let near = pass::<8>(bytes, pass::<32>(bytes, from));
+    pass::<1>(bytes, near).min(bytes.len())
 }
 
-// The same in blocks of eight, then byte by byte.
-fn line_end_by_8(bytes: &[u8], from: usize) -> usize
-    ensures { LineEnd bytes.now from result }
+// The place behind the blocks of N bytes without a `\n` from a place on. The line's end is less than N bytes ahead.
+fn pass<const N: usize>(bytes: &[u8], from: usize) -> usize
+    requires { 0 < N }
+    ensures same { line_end bytes.now from ≡ line_end bytes.now result }
+    ensures near { line_end bytes.now result < result + N }
 {
-    let stop = less(bytes.len(), 7);
+    let stop = bytes.len().saturating_sub(N - 1);
     let mut i = from;
-    while i < stop {
-        if any8(bytes, i) {
-            return line_end_by_1(bytes, i);
-        }
-        i += 8;
+    // `chunks_exact` would have to be counted: the place is the answer.
+    while i < stop && !bytes[i..i + N].contains(&b'\n') {
+        i += N;
     }
-    line_end_by_1(bytes, i)
+    i
 }
 
-fn line_end_by_1(bytes: &[u8], from: usize) -> usize
-    ensures { LineEnd bytes.now from result }
-{
-    let mut i = from;
-    while i < bytes.len() {
-        if bytes[i] == b'\n' {
-            return i;
-        }
-        i += 1;
-    }
-    bytes.len()
-}
-
-// The blank lines from a place on: how many, and where the next line begins. `undecided`: of that line nothing or a lone `\r` is there, so that
-// it may yet be blank.
+// The blank lines from a place on: how many, and where the next line begins. `undecided`: of that line nothing or a
+// lone `\r` is there, so that it may yet be blank. It is a flag, for the other fields stand either way.
 #[derive(Clone, Copy)]
 pub struct Blank {
     pub at: usize,
@@ -77,36 +50,27 @@ pub struct Blank {
 pub fn lead(bytes: &[u8], from: usize) -> Blank
     ensures { Lead bytes.now from result }
 {
-    let mut i = from;
-    let mut n = 0;
-    while i < bytes.len() {
-        let x = bytes[i];
-        if x == b'\n' {
-            i += 1;
+    let mut at = from;
+    let mut lines = 0;
+    // By one byte or by two, as the line ends: a `for` has one step.
+    while at < bytes.len() {
+        let rest = &bytes[at..];
+        if rest.starts_with(b"\n") {
+            at += 1;
+        } else if rest.starts_with(b"\r\n") {
+            at += 2;
         } else {
-            if x != b'\r' {
-                return next_line(i, n, false);
-            }
-            let next = i + 1;
-            if next == bytes.len() {
-                return next_line(i, n, true);
-            }
-            if bytes[next] != b'\n' {
-                return next_line(i, n, false);
-            }
-            i = next + 1;
+            return Blank {
+                at,
+                lines,
+                undecided: bytes[at..] == [b'\r'],
+            };
         }
-        n += 1;
+        lines += 1;
     }
-    next_line(i, n, true)
-}
-
-fn next_line(at: usize, lines: usize, undecided: bool) -> Blank
-    ensures { result ≡ blank at lines undecided }
-{
     Blank {
         at,
         lines,
-        undecided,
+        undecided: true,
     }
 }

@@ -1,5 +1,5 @@
--- Set calls computed: `>a\nA\n>b\n>c` in a full window at the told end, a reader before its lead. What is said of set calls is said of something.
--- Assumes nothing.
+-- Set calls computed: `>a\nA\n>b\n>c` in a full window at the told end, a reader before its lead. What is said of set
+-- calls is said of something. Assumes nothing.
 use Prim.Native.Nat.{ℕ}
 use mathlib.Core.Bool.{true, false}
 use mathlib.Core.List.{List, [], ◌∷◌}
@@ -24,7 +24,16 @@ zeros = 0 ∷ 0 ∷ 0 ∷ 0 ∷ 0 ∷ 0 ∷ []
 abbrev start : Reader
 start =
     record {
-      fill = record { capacity = 10; filled = 10; base = input_at 0; told = true; asking = false; lent = 10; policy = StdPolicy };
+      fill =
+          record {
+            capacity = 10;
+            filled = 10;
+            base = input_at 0;
+            told = true;
+            asking = false;
+            lent = 10;
+            policy = StdPolicy;
+          };
       mark = mark_at 0 0 0 1;
       slots = 6;
       phase = phase.Lead;

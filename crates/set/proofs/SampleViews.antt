@@ -1,5 +1,5 @@
--- A set of two records, `>a` with the line AC and `>b` without a line, in which the definitions of views and positions are run: its first record is on
--- line 5 at byte 100. Assumes nothing.
+-- A set of two records, `>a` with the line AC and `>b` without a line, in which the definitions of views and
+-- positions are run: its first record is on line 5 at byte 100. Assumes nothing.
 use Prim.Native.Nat.{ℕ}
 use mathlib.Core.List.{List, [], ◌∷◌}
 use mathlib.Core.Path.{◌≡◌, refl}
@@ -34,7 +34,9 @@ records :
 unfolding record_of
 records = (refl, (refl, (refl, (refl, refl))))
 
-heads : (of_record two bytes marks ends 0 head_in refused ≡ part 1 2) × (of_record two bytes marks ends 1 head_in refused ≡ part 7 8)
+heads :
+    (of_record two bytes marks ends 0 head_in refused ≡ part 1 2)
+    × (of_record two bytes marks ends 1 head_in refused ≡ part 7 8)
 unfolding record_of head_in trim_cr
 heads = (refl, refl)
 

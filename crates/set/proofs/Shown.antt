@@ -1,11 +1,10 @@
--- A record that stands in the filled bytes of a set, by its start and its ends, is shown by the set's views and written by its writers as the input's
--- meaning has it, and its position is its place in the input. Assumes nothing.
+-- A record that stands in the filled bytes of a set, by its start and its ends, is shown by the set's views and
+-- written by its writers as the input's meaning has it, and its position is its place in the input. Assumes nothing.
 use Prim.Native.Nat.{ℕ, ◌+◌, ◌-◌, ◌≤◌}
 use mathlib.Core.List.{List, []}
 use mathlib.Core.Option.{Option, some}
-use mathlib.Core.Path.{◌≡◌, refl, sym, ap, subst, ◌∙◌}
+use mathlib.Core.Path.{◌≡◌, sym, ap, subst, ◌∙◌}
 use lib.ListN.{length, get_or, take, drop}
-use borrow.Author.Tests.{le-ltb}
 use Rattle.meaning.specs.Input.{Rec}
 use Rattle.meaning.specs.Parts.{head_of, seq_lines, seq_of, id_of, desc_of}
 use Rattle.reader.specs.Calls.{at}
@@ -24,20 +23,20 @@ use Rattle.set.specs.declared.state.Set.{Set}
 use Rattle.set.specs.Set.{Record, held, record_of, of_held, of_record}
 use Rattle.set.specs.Record.{place_held}
 use Rattle.set.specs.Shown.{ShowsAt, WritesAt}
-use Rattle.set.proofs.Inside.{Inside, record-inside}
-use Rattle.set.proofs.Places.{placed_at}
+use Rattle.set.proofs.Numbers.{filled-inside, placed_is}
 
 module _ (s : Set) (bytes marks ends : List ℕ) (i : ℕ) (start filled from to : ℕ)
     (is : record_of s (length bytes) marks (length ends) i ≡ held start filled from to) (r : Rec) where
   fits : filled ≤ length bytes
-  fits = (subst (Inside (length bytes) (length ends)) is (record-inside s (length bytes) marks (length ends) i)).0
+  fits = filled-inside s (length bytes) marks (length ends) i start filled from to is
 
   abbrev es : List ℕ
   es = take (to - from) (drop from ends)
 
   -- what a view shows of its parts, it shows of the record
-  by-view : (v : List ℕ → ℕ → List ℕ → Shown) (text : Option (List ℕ)) → Shows bytes (v (take filled bytes) start es) text
-      → Shows bytes (of_record s bytes marks ends i v refused) text
+  by-view :
+      (v : List ℕ → ℕ → List ℕ → Shown) (text : Option (List ℕ)) → Shows bytes (v (take filled bytes) start es) text →
+      Shows bytes (of_record s bytes marks ends i v refused) text
   by-view v text h = subst (λ (q : Record). Shows bytes (of_held bytes ends v refused q) text) (sym is) h
 
   pub shows-at : Stands (take filled bytes) start r es → ShowsAt s bytes marks ends i r
@@ -51,10 +50,13 @@ module _ (s : Set) (bytes marks ends : List ℕ) (i : ℕ) (start filled from to
             ∙ ap are (count_is (take filled bytes) start r es stands);
         line =
             λ n h.
-            by-view (λ w start es. line_in w start es n) (some (get_or (seq_lines r) n [])) (line-wider filled bytes start r es fits stands n h);
+            by-view (λ w start es. line_in w start es n) (some (get_or (seq_lines r) n []))
+            (line-wider filled bytes start r es fits stands n h);
         sequence =
             λ scratch room.
-            let e = ap (of_held bytes ends (λ w start es. full_in w start es scratch) (λ n. full.left (full.refuses n []) scratch)) is in
+            let e =
+            ap (of_held bytes ends (λ w start es. full_in w start es scratch)
+            (λ n. full.left (full.refuses n []) scratch)) is in
             subst (λ (o : Left). picked bytes o.scratch o.answer ≡ seq_of r) (sym e)
             (full-wider filled bytes start r es fits stands scratch room);
       }
@@ -81,4 +83,4 @@ module _ (s : Set) (bytes marks ends : List ℕ) (i : ℕ) (start filled from to
       → place_held s (record_of s (length bytes) marks (length ends) i) ≡ at r.line r.byte
   placed-there l b p =
       ap (place_held s) is
-      ∙ rw (l, b) (sym (placed_at r.line r.byte refl p.byte_most p.line_least (le-ltb (r.byte + 1) r.line p.line_most)))
+      ∙ rw (l, b) (placed_is r.line r.byte p)

@@ -1,4 +1,5 @@
--- The promise of a set call is an equation with a definition, and what an answer says tells the answer: so it allows one. Assumes nothing.
+-- The promise of a set call is an equation with a definition, and what an answer says tells the answer: so it allows
+-- one. Assumes nothing.
 use Prim.Native.Nat.{ℕ}
 use mathlib.Core.Bool.{cond}
 use mathlib.Core.List.{List, [], ◌∷◌}
@@ -18,12 +19,14 @@ place_at line byte = record { line = line; byte = input_at byte }
 
 -- the answer that says so
 abbrev answer_back : Said → Filled
-answer_back (asks place room offset) = filled.Ask (record { place = window_at place; room = room; offset = input_at offset })
+answer_back (asks place room offset) =
+    filled.Ask (record { place = window_at place; room = room; offset = input_at offset })
 answer_back (holds count n) = filled.Records count n
 answer_back ends = filled.End
 answer_back (refuses n []) = cond (eqb n 5) filled.Place (cond (eqb n 11) filled.State filled.Room)
 answer_back (refuses n (a ∷ [])) = filled.State
-answer_back (refuses n (a ∷ b ∷ v)) = cond (eqb n 2) (filled.Start a b) (cond (eqb n 3) (filled.Window (place_at a b)) (filled.Table (place_at a b)))
+answer_back (refuses n (a ∷ b ∷ v)) =
+    cond (eqb n 2) (filled.Start a b) (cond (eqb n 3) (filled.Window (place_at a b)) (filled.Table (place_at a b)))
 
 answer-is : (a : Filled) → answer_back (said_by a) ≡ a
 answer-is (filled.Ask a) = refl
@@ -37,7 +40,8 @@ answer-is filled.State = refl
 answer-is filled.Room = refl
 
 pub next-set-unique :
-    (s : Set) (bytes marks es : List ℕ) (reader : Reader) (w e : List ℕ) (m n : NextSet) (w₁ w₂ e₁ e₂ b₁ b₂ m₁ m₂ s₁ s₂ : List ℕ) →
+    (s : Set) (bytes marks es : List ℕ) (reader : Reader) (w e : List ℕ) (m n : NextSet)
+    (w₁ w₂ e₁ e₂ b₁ b₂ m₁ m₂ s₁ s₂ : List ℕ) →
     SetIs s bytes marks es reader w e m w₁ e₁ b₁ m₁ s₁ →
     SetIs s bytes marks es reader w e n w₂ e₂ b₂ m₂ s₂ →
     (m ≡ n) × (w₁ ≡ w₂) × (e₁ ≡ e₂) × (b₁ ≡ b₂) × (m₁ ≡ m₂) × (s₁ ≡ s₂)

@@ -1,7 +1,9 @@
--- What a set call answers and leaves (01, module 6 and refusal 12): "the filled bytes are copied, with start and line ends per record, for every record
--- from the current place that is whole in the window, fits the set's tables and meets no refusal; at least one. The rest is read next. An ask,
--- the end or a refusal leaves the set untouched with count 0." Order: 11, its byte length, then 2 to 5, then its tables. Assumes nothing.
-use Rattle.std.specs.Prelude.{ℕ, zero, suc, ◌+◌, ◌≤◌, Bool, true, false, ◌&&◌, List, [], ◌∷◌, ◌≡◌, length, take, set, eqb, ltb, leb}
+-- What a set call answers and leaves (01, module 6 and refusal 12): "the filled bytes are copied, with start and line
+-- ends per record, for every record from the current place that is whole in the window, fits the set's tables and
+-- meets no refusal; at least one. The rest is read next. An ask, the end or a refusal leaves the set untouched with
+-- count 0." Order: 11, its byte length, then 2 to 5, then its tables. Assumes nothing.
+use Rattle.std.specs.Prelude.{ℕ, zero, suc, ◌+◌, ◌-◌, Bool, true, false, ◌&&◌, eqb, ltb, leb, ◌≡◌}
+use Rattle.std.specs.Prelude.{List, [], ◌∷◌, length, take, set}
 use Rattle.std.proofs.Math.Bool.{cond}
 use Rattle.scan.specs.Move.{pasted}
 use Rattle.reader.specs.declared.state.Reader.{Reader}
@@ -9,6 +11,7 @@ use Rattle.reader.specs.State.{sane, lent_as}
 use Rattle.reader.specs.Read as read
 use Rattle.reader.specs.Read.{Did, read_of}
 use Rattle.reader.specs.Look.{Seen, Looked, whole, unfinished, over, denied, look_of, put_back_of}
+use Rattle.set.specs.declared.gather.Tables.{Tables}
 use Rattle.set.specs.declared.state.Set.{Set}
 use Rattle.set.specs.declared.state.Filled.{Filled}
 use Rattle.set.specs.declared.state.Filled.TheVariants as filled
@@ -32,7 +35,8 @@ pub record Gathered : Type 0 where
   pub ends : List ℕ
 
 abbrev pub gathered : Reader → (table : List ℕ) (count used : ℕ) (marks es : List ℕ) → Gathered
-gathered r e count used marks es = record { reader = r; table = e; count = count; used = used; marks = marks; ends = es }
+gathered r e count used marks es =
+    record { reader = r; table = e; count = count; used = used; marks = marks; ends = es }
 
 abbrev pub gathered_by : Reader → (table : List ℕ) → Gathered → Gathered
 gathered_by r e g = gathered r e g.count g.used g.marks g.ends
@@ -41,10 +45,19 @@ gathered_by r e g = gathered r e g.count g.used g.marks g.ends
 abbrev pub fits : Gathered → Bool
 fits g = leb (g.used + g.reader.mark.count) (length g.ends)
 
--- the table of marks has room for one record more, and that of ends for the ends of the current one
-pub record Fitting (r : Reader) (count used : ℕ) (marks es : List ℕ) : Type 0 where
-  pub marks_fit : count + count + 2 ≤ length marks
-  pub ends_fit : used + r.mark.count ≤ length es
+-- how many records a table of marks has room for
+abbrev pub pairs : List ℕ → ℕ
+pairs [] = 0
+pairs (x ∷ []) = 0
+pairs (x ∷ y ∷ ms) = suc (pairs ms)
+
+-- the tables have room for the current record
+abbrev pub has_room : Gathered → Bool
+has_room g = ltb g.count (pairs g.marks) && fits g
+
+-- the same of the tables as they are lent
+abbrev pub gathered_in : Reader → (table : List ℕ) → Tables → Gathered
+gathered_in r e t = gathered r e t.count t.used t.marks.now t.ends.now
 
 -- the current record behind those that the set has
 abbrev pub put : Gathered → Gathered
@@ -59,6 +72,10 @@ put g =
       marks = set (set g.marks (k + k) g.reader.mark.start.0) (k + k + 1) n;
       ends = pasted g.used (take g.reader.mark.count g.table) g.ends;
     }
+
+abbrev pub put_if : Bool → Gathered → Gathered
+put_if true g = put g
+put_if false g = g
 
 -- a record that does not fit is found again by the next call
 abbrev pub back : Gathered → Gathered
@@ -81,13 +98,12 @@ unfoldable pub gather : (room : ℕ) (w : List ℕ) → Gathered → Gathered
 unfolding look_of put_back_of
 gather zero w g = by_look (λ (q : Gathered). back q) g (look_of g.reader w g.table)
 gather (suc room) w g =
-    by_look (λ (q : Gathered). elim (fits q) [ true ↦ gather room w (put q) | false ↦ back q ]) g (look_of g.reader w g.table)
+    by_look (λ (q : Gathered). elim (fits q) [ true ↦ gather room w (put q) | false ↦ back q ]) g
+    (look_of g.reader w g.table)
 
--- how many records a table of marks has room for
-abbrev pub pairs : List ℕ → ℕ
-pairs [] = 0
-pairs (x ∷ []) = 0
-pairs (x ∷ y ∷ ms) = suc (pairs ms)
+-- as many as the table of marks has room for
+abbrev pub gather_all : (w : List ℕ) → Gathered → Gathered
+gather_all w g = gather (pairs g.marks - g.count) w g
 
 -- what a set call says and leaves
 pub record Called : Type 0 where
@@ -121,7 +137,8 @@ holding first g w bytes =
 module _ (s : Set) (bytes marks es : List ℕ) where
   -- the set's slices untouched
   abbrev pub leaves : Said → Reader → (w e : List ℕ) → Set → Called
-  leaves a r w e t = record { said = a; reader = r; window = w; table = e; set = t; bytes = bytes; marks = marks; ends = es }
+  leaves a r w e t =
+      record { said = a; reader = r; window = w; table = e; set = t; bytes = bytes; marks = marks; ends = es }
 
   -- 12: "set untouched, count 0"
   abbrev pub refused12 : Reader → (w e : List ℕ) → Called
@@ -131,7 +148,8 @@ module _ (s : Set) (bytes marks es : List ℕ) where
   abbrev pub filled_with : Did → Gathered → Called
   filled_with d g = holding d.reader g d.window (pasted 0 (take d.reader.fill.filled d.window) bytes)
 
-  -- behind the first record, of which the table of marks has room for so many: "the next record doesn't fit its tables .. the next read gives that record"
+  -- behind the first record, of which the table of marks has room for so many: "the next record doesn't fit its
+  -- tables .. the next read gives that record"
   abbrev pub collected_in : (room : ℕ) → Did → Called
   collected_in zero d = refused12 (put_back_of d.reader) d.window d.table
   collected_in (suc room) d =
@@ -180,5 +198,7 @@ called n w e bytes marks es =
     }
 
 -- the promise of `next_set`
-abbrev pub SetIs : Set → (bytes marks es : List ℕ) → Reader → (w e : List ℕ) → NextSet → (w' e' bytes' marks' es' : List ℕ) → Type 0
-SetIs s bytes marks es r w e n w' e' bytes' marks' es' = called n w' e' bytes' marks' es' ≡ set_of s bytes marks es r w e
+abbrev pub SetIs :
+    Set → (bytes marks es : List ℕ) → Reader → (w e : List ℕ) → NextSet → (w' e' bytes' marks' es' : List ℕ) → Type 0
+SetIs s bytes marks es r w e n w' e' bytes' marks' es' =
+    called n w' e' bytes' marks' es' ≡ set_of s bytes marks es r w e

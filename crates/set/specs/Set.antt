@@ -1,6 +1,6 @@
--- A record set (01, module 6): the filled bytes of a window, copied, with start and line ends per record. The table `marks` has two numbers for each
--- record: where it starts in the bytes, and how many ends there are up to its last. The ends of all records stand in `ends`, one after the other,
--- so they rise through the whole set. Assumes nothing.
+-- A record set (01, module 6): the filled bytes of a window, copied, with start and line ends per record. The table
+-- `marks` has two numbers for each record: where it starts in the bytes, and how many ends there are up to its last.
+-- The ends of all records stand in `ends`, one after the other, so they rise through the whole set. Assumes nothing.
 use Rattle.std.specs.Prelude.{ℕ, zero, suc, ◌+◌, ◌-◌, Bool, cond, ◌&&◌, List, length, get_or, take, drop, ltb, leb}
 use Rattle.set.specs.declared.state.Set.{Set}
 
@@ -20,8 +20,9 @@ ends_to marks i = get_or marks (i + i + 1) 0
 abbrev pub start_of : (marks : List ℕ) → (i : ℕ) → ℕ
 start_of marks i = get_or marks (i + i) 0
 
--- A record of a set by its number: its start, the filled bytes, and its ends, from one number up to another; or refusal 11, then 7. A record without
--- an end, or with ends that do not lie in the lent table, has ends that no call can use: 11.
+-- A record of a set by its number: its start, the filled bytes, and its ends, from one number up to another; or
+-- refusal 11, then 7. A record without an end, or with ends that do not lie in the lent table, has ends that no call
+-- can use: 11.
 pub data Record : Type 0 where
   held : (start filled from to : ℕ) → Record
   missing : (number : ℕ) → Record
@@ -42,8 +43,11 @@ record_of s bytes marks ends i =
 
 -- what is shown of the bytes, start and ends of a record; without one, what a refusal of that number is
 abbrev pub of_held : {A : Type 0} → (bytes ends : List ℕ) → (List ℕ → ℕ → List ℕ → A) → (ℕ → A) → Record → A
-of_held bytes ends shown refused (held start filled from to) = shown (take filled bytes) start (take (to - from) (drop from ends))
+of_held bytes ends shown refused (held start filled from to) =
+    shown (take filled bytes) start (take (to - from) (drop from ends))
 of_held bytes ends shown refused (missing number) = refused number
 
-abbrev pub of_record : {A : Type 0} → Set → (bytes marks ends : List ℕ) (i : ℕ) → (List ℕ → ℕ → List ℕ → A) → (ℕ → A) → A
-of_record s bytes marks ends i shown refused = of_held bytes ends shown refused (record_of s (length bytes) marks (length ends) i)
+abbrev pub of_record :
+    {A : Type 0} → Set → (bytes marks ends : List ℕ) (i : ℕ) → (List ℕ → ℕ → List ℕ → A) → (ℕ → A) → A
+of_record s bytes marks ends i shown refused =
+    of_held bytes ends shown refused (record_of s (length bytes) marks (length ends) i)

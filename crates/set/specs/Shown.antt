@@ -1,4 +1,5 @@
--- What it means that the views of a set show a record of the input by its number, and that its writers write it. Assumes nothing.
+-- What it means that the views of a set show a record of the input by its number, and that its writers write it.
+-- Assumes nothing.
 use Rattle.std.specs.Prelude.{ℕ, ◌<◌, ◌≤◌, List, [], ◌≡◌, length, get_or}
 use Rattle.std.proofs.Math.Option.{some}
 use Rattle.meaning.specs.Input.{Rec}
@@ -15,8 +16,8 @@ use Rattle.rewrite.specs.Rewrite.{written_in, wrapped_in, unchanged_in}
 use Rattle.set.specs.declared.state.Set.{Set}
 use Rattle.set.specs.Set.{of_record}
 
--- The views of record i show a record's head, id and description, as many lines as it has, each of them by its number, and the joined sequence where the
--- scratch has room for it or one line needs none.
+-- The views of record i show a record's head, id and description, as many lines as it has, each of them by its
+-- number, and the joined sequence where the scratch has room for it or one line needs none.
 pub record ShowsAt (s : Set) (bytes marks ends : List ℕ) (i : ℕ) (r : Rec) : Type 0 where
   pub head : Shows bytes (of_record s bytes marks ends i head_in refused) (some (head_of r))
   pub id : Shows bytes (of_record s bytes marks ends i id_in refused) (some (id_of (head_of r)))
@@ -24,13 +25,17 @@ pub record ShowsAt (s : Set) (bytes marks ends : List ℕ) (i : ℕ) (r : Rec) :
   pub lines : of_record s bytes marks ends i (λ w start es. are (line_count es)) refuses ≡ are (length (seq_lines r))
   pub line :
       (n : ℕ) → n < length (seq_lines r) →
-      Shows bytes (of_record s bytes marks ends i (λ w start es. line_in w start es n) refused) (some (get_or (seq_lines r) n []))
+      Shows bytes (of_record s bytes marks ends i (λ w start es. line_in w start es n) refused)
+      (some (get_or (seq_lines r) n []))
   pub sequence :
       (scratch : List ℕ) → length (seq_of r) ≤ length scratch →
-      let f = of_record s bytes marks ends i (λ w start es. full_in w start es scratch) (λ n. full.left (full.refuses n []) scratch) in
+      let f =
+      of_record s bytes marks ends i (λ w start es. full_in w start es scratch)
+      (λ n. full.left (full.refuses n []) scratch) in
       picked bytes f.scratch f.answer ≡ seq_of r
 
--- The writers of record i write a record's text, the wrapped one, and the copy of what was read, as any text is written.
+-- The writers of record i write a record's text, the wrapped one, and the copy of what was read, as any text is
+-- written.
 pub record WritesAt (s : Set) (bytes marks ends : List ℕ) (i : ℕ) (r : Rec) : Type 0 where
   pub write :
       (out : List ℕ) →

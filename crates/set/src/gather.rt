@@ -1,109 +1,62 @@
-// Gathering a set's records (01, module 6): a look at each record behind the first as long as it is whole in the window and fits the set's tables, and
-// what the tables are given of it.
-ghost use Rattle.std.specs.Prelude.{suc, ◌+◌, ◌≤◌, ◌≡◌, length, leb};
-ghost use Rattle.reader.specs.Look.{seen_by};
-ghost use Rattle.set.specs.Read.{gathered, put, gather, is_whole, Fitting};
+// Gathering a set's records (01, module 6): a look at each record behind the first as long as it is whole in the window
+// and fits the set's tables, and what the tables are given of it.
+ghost use Rattle.std.specs.Prelude.{◌≡◌};
+ghost use Rattle.set.specs.Read.{has_room, put_if, gather_all, gathered_in};
 
-use crate::copies::copy_ends;
+use crate::copies::copy_front;
 use reader::{Reader, Sight};
 
-// Where a set call stands: the reader, and how many records with how many ends the set has.
-#[derive(Clone, Copy)]
-pub(crate) struct Way {
-    pub(crate) reader: Reader,
+// A set's tables, and how many records and ends they have so far.
+#[derive(Drop)]
+pub(crate) struct Tables<'a> {
+    pub(crate) marks: &'a mut [usize],
+    pub(crate) ends: &'a mut [usize],
     pub(crate) count: usize,
     pub(crate) used: usize,
 }
 
-// The records behind the first, which has so many ends, as long as one is whole in the filled bytes and fits; the marks have room for so many.
-pub(crate) fn gather(
-    first: Reader,
-    lines: usize,
-    room: usize,
-    window: &[u8],
-    table: &mut [usize],
-    marks: &mut [usize],
-    ends: &mut [usize],
-) -> Way
-    requires { (room + room + 2 ≤ length marks.old) × (lines ≤ length ends.old) }
-    ensures { gathered result.reader table.new result.count result.used marks.new ends.new ≡ gather room window.now (gathered first table.old 1 lines marks.old ends.old) }
-{
-    let mut reader = first;
-    let mut count = 1;
-    let mut used = lines;
-    let mut left = room;
-    loop {
-        let look = reader.look(window, table);
-        let sight = look.sight;
-        reader = look.reader;
-        if !is_whole(sight) {
-            return Way {
-                reader,
-                count,
-                used,
+impl<'a> Tables<'a> {
+    // The records behind the first, as long as one is whole in the filled bytes and fits.
+    pub(crate) fn gather(&mut self, first: Reader, window: &[u8], table: &mut [usize]) -> Reader
+        ensures same_marks { self.new.marks.ghost_name ≡ self.old.marks.ghost_name }
+        ensures same_ends { self.new.ends.ghost_name ≡ self.old.ends.ghost_name }
+        ensures gathers { gathered_in result table.new self.new
+            ≡ gather_all window.now (gathered_in first table.old self.old) }
+    {
+        // Each turn needs the reader that the turn before left, and what stands behind is known by a look alone.
+        let mut reader = first;
+        loop {
+            let look = reader.look(window, table);
+            reader = look.reader;
+            let Ok(Sight::Whole(_)) = look.sight else {
+                return reader;
             };
+            if !self.put(reader, table) {
+                return reader.put_back();
+            }
         }
-        if left == 0 {
-            return Way {
-                reader: reader.put_back(),
-                count,
-                used,
-            };
+    }
+
+    // The current record goes behind the others, if there is room for it: its start, the number of the ends up to its
+    // last, and its ends. A sum that stops at the largest number is above the length of every table.
+    #[tactic(auto, using(crate::proofs::Gathering::half_is))]
+    pub(crate) fn put(&mut self, reader: Reader, table: &[usize]) -> bool
+        ensures same_marks { self.new.marks.ghost_name ≡ self.old.marks.ghost_name }
+        ensures same_ends { self.new.ends.ghost_name ≡ self.old.ends.ghost_name }
+        ensures fits { result ≡ has_room (gathered_in reader table.now self.old) }
+        ensures put { gathered_in reader table.now self.new
+            ≡ put_if result (gathered_in reader table.now self.old) }
+    {
+        let to = self.used.saturating_add(reader.mark.count);
+        if self.marks.len() / 2 <= self.count || self.ends.len() < to {
+            return false;
         }
-        if !fits(reader, used, ends.len()) {
-            return Way {
-                reader: reader.put_back(),
-                count,
-                used,
-            };
-        }
-        used = put(reader, count, used, table, marks, ends);
-        count += 1;
-        left -= 1;
+        let at = self.count + self.count;
+        self.marks[at] = reader.mark.start.0;
+        self.marks[at + 1] = to;
+        copy_front(table, reader.mark.count, self.ends, self.used);
+        self.count += 1;
+        self.used = to;
+        true
     }
-}
-
-// Whether a look saw a whole record.
-fn is_whole(sight: Sight) -> bool
-    ensures { result ≡ is_whole (seen_by sight) }
-{
-    match sight {
-        Sight::Whole(_) => true,
-        Sight::Unfinished => false,
-        Sight::Over => false,
-        Sight::None => false,
-        Sight::State => false,
-    }
-}
-
-// Whether the ends of the current record fit a table with so many slots, of which so many are used.
-pub(crate) fn fits(reader: Reader, used: usize, slots: usize) -> bool
-    ensures { result ≡ leb (used + reader.mark.count) slots }
-{
-    let mark = reader.mark;
-    if slots < used {
-        return false;
-    }
-    mark.count <= slots - used
-}
-
-// The current record behind those that the set has: its start and the number of the ends up to its last, which is answered, and its ends.
-pub(crate) fn put(
-    reader: Reader,
-    count: usize,
-    used: usize,
-    table: &[usize],
-    marks: &mut [usize],
-    ends: &mut [usize],
-) -> usize
-    requires { Fitting reader count used marks.old ends.old }
-    ensures { gathered reader table.now (suc count) result marks.new ends.new ≡ put (gathered reader table.now count used marks.old ends.old) }
-{
-    let mark = reader.mark;
-    let at = count + count;
-    let to = used + mark.count;
-    marks[at] = mark.start.0;
-    marks[at + 1] = to;
-    copy_ends(table, mark.count, ends, used);
-    to
 }

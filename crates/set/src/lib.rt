@@ -1,4 +1,5 @@
-// Record sets (01, module 6, refusal 12): the records that are whole in the window, copied with it, and their views, writers and positions by number.
+// Record sets (01, module 6, refusal 12): the records that are whole in the window, copied with it, and their views,
+// writers and positions by number.
 #![tactic(auto)]
 
 mod copies;
@@ -10,7 +11,6 @@ mod views;
 mod writers;
 
 pub use read::next_set;
-pub use record::{Held, Place};
+pub use record::Held;
 pub use state::{Filled, NextSet, Set};
-pub use views::{desc, full_seq, head, id, line, lines, seq};
-pub use writers::{write, write_unchanged, write_wrap};
+pub use views::SetRef;

@@ -1,35 +1,30 @@
 -- Laws of heads and lines: a turn of the search for a space, the description behind that space, and that trimming makes nothing longer.
 -- Assumes nothing.
 use Prim.Native.Nat.{ℕ, suc, ◌+◌, ◌-◌, ◌≤◌, ◌<◌}
-use native.Mathlib.Numerals.{add-one}
 use native.Mathlib.Omega.{arith}
-use mathlib.Core.Bool.{Bool, true, false}
+use mathlib.Core.Bool.{Bool, true, false, cond}
 use mathlib.Core.List.{List, [], ◌∷◌}
 use mathlib.Core.Option.{none, some}
-use mathlib.Core.Path.{◌≡◌, refl}
-use lib.ListN.{length, get_or, take, drop, length-drop, drop_of_length-le}
-use lib.Seq.{drop-cons, length-take-le}
-use lib.Dec.{eqb}
-use borrow.Author.Tests.{eq-eqb, ne_eqb}
+use mathlib.Core.Path.{◌≡◌, refl, sym, subst}
+use lib.ListN.{length, take, drop, length-drop}
+use lib.Seq.{length-take-le}
+use lib.Dec.{eqb, ltb}
+use borrow.Author.Tests.{ltb-true, ltb-false}
+use Rattle.std.specs.Prelude.{Option, Some, None, unwrap_or}
+use Rattle.std.specs.List.{position, position_or_len}
+use Rattle.std.proofs.lemmas.List.Recursion.{is_position_or_len}
 use Rattle.meaning.specs.Line.{trim_cr}
-use Rattle.meaning.specs.Parts.{id_of, desc_of}
+use Rattle.meaning.specs.Parts.{ends_id, id_of, desc_of}
 use Rattle.view.specs.View.{line_of}
 
-module _ (h : List ℕ) where
-  -- a space ends the id
-  pub id-found : (i : ℕ) → i < length h → get_or h i 0 ≡ 32 → length (id_of (drop i h)) ≡ 0
-  unfolding id_of
-  id-found i k e = rw (drop-cons h i 0 k, eq-eqb (get_or h i 0) 32 e)
-
-  -- any other byte is passed
-  pub id_next : (i : ℕ) → i < length h → (get_or h i 0 ≡ 32 → ⊥) → length (id_of (drop i h)) ≡ suc (length (id_of (drop (i + 1) h)))
-  unfolding id_of
-  id_next i k e = rw (add-one, drop-cons h i 0 k, ne_eqb (get_or h i 0) 32 e)
-
-  -- behind the head there is nothing
-  pub id-past : (i : ℕ) → length h ≤ i → length (id_of (drop i h)) ≡ 0
-  unfolding id_of
-  id-past i k = rw (drop_of_length-le h {i = i} k)
+-- a head's id is as long as the place of its first space is far
+id-place : (h : List ℕ) → length (id_of h) ≡ position_or_len ends_id h
+unfolding id_of
+id-place = is_position_or_len (λ h. length (id_of h)) ends_id refl (λ x h. go x h (eqb x 32) refl)
+  where
+    go : (x : ℕ) (h : List ℕ) (t : Bool) → eqb x 32 ≡ t → length (id_of (x ∷ h)) ≡ cond (ends_id x) 0 (1 + length (id_of h))
+    go x h true t = rw (t, id_of)
+    go x h false t = rw (t, id_of) (omega arith)
 
 pub id-within : (h : List ℕ) → length (id_of h) ≤ length h
 unfolding id_of
@@ -39,6 +34,25 @@ id-within (x ∷ h) = go (eqb x 32) refl (id-within h)
     go : (t : Bool) → eqb x 32 ≡ t → length (id_of h) ≤ length h → length (id_of (x ∷ h)) ≤ length (x ∷ h)
     go true t ih = rw (t, id_of) (omega arith)
     go false t ih = rw (t, id_of) (omega arith)
+
+-- what the place of the first space says: the id ends there, and without one it is the whole head
+abbrev pub SpaceIs : (h : List ℕ) → Option ℕ → Type 0
+SpaceIs h (Some n) = (n ≡ length (id_of h)) × (n < length h)
+SpaceIs h None = length (id_of h) ≡ length h
+
+pub space-is : (h : List ℕ) (r : Option ℕ) → r ≡ position ends_id h → SpaceIs h r
+space-is h r e = subst (SpaceIs h) (sym e) (go (ltb (position_or_len ends_id h) (length h)) refl)
+  where
+    go : (t : Bool) → ltb (position_or_len ends_id h) (length h) ≡ t → SpaceIs h (position ends_id h)
+    go true t = rw t (sym (id-place h), ltb-true (position_or_len ends_id h) (length h) t)
+    go false t = rw t (omega (arith, id-place h, ltb-false (position_or_len ends_id h) (length h) t, id-within h))
+
+pub id-length : (h : List ℕ) (r : Option ℕ) → r ≡ position ends_id h → unwrap_or r (length h) ≡ length (id_of h)
+id-length h r e = go r (space-is h r e)
+  where
+    go : (r : Option ℕ) → SpaceIs h r → unwrap_or r (length h) ≡ length (id_of h)
+    go (Some n) s = s.0
+    go None s = sym s
 
 -- an id as long as the head: no space, no description
 pub desc-none : (h : List ℕ) → length (id_of h) ≡ length h → desc_of h ≡ none

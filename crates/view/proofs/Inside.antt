@@ -1,5 +1,5 @@
--- What `current` tells of the lent window and table: the filled bytes and the ends that it names lie in them, and each of its cases shows
--- what a view's promise says of it. Assumes nothing.
+-- What `current` tells of the lent window and table: the filled bytes and the ends that it names lie in them.
+-- Assumes nothing.
 use Prim.Native.Nat.{ℕ, ◌≤◌}
 use native.Mathlib.Omega.{arith}
 use mathlib.Core.Bool.{Bool, true, false, ◌&&◌}
@@ -11,11 +11,11 @@ use lib.Dec.{eqb}
 use borrow.Author.Tests.{eqb-true}
 use Rattle.reader.specs.declared.state.Reader.{Reader}
 use Rattle.reader.specs.declared.state.Current.{Current}
-use Rattle.reader.specs.declared.state.Current.TheVariants.{At}
+use Rattle.reader.specs.declared.error.RecordError.{RecordError}
+use Rattle.std.specs.Prelude.{Result, Ok}
 use Rattle.reader.specs.State.{sane, lent_as, is_current}
 use Rattle.reader.specs.Calls.{Held, held, missing, current_of, held_by, CurrentIs}
 use Rattle.reader.proofs.Sanity.{true-sane, and-true}
-use Rattle.view.specs.Current.{of_held, of_current}
 
 abbrev Inside : (window ends : ℕ) → Held → Type 0
 Inside window ends (held start filled count) = (filled ≤ window) × (count ≤ ends)
@@ -43,21 +43,16 @@ module _ (window ends : ℕ) (r : Reader) where
       go true et false eu = rw (et, eu, current_of) tt
       go true et true eu = rw (et, eu, current_of) (passed-inside et)
 
-module _ (r : Reader) (w ends : List ℕ) {now : Current} (is : CurrentIs (length w) (length ends) r now) where
-  told : {c : Current} → now ≡ c → held_by c ≡ current_of (length w) (length ends) r
+module _ (r : Reader) (w ends : List ℕ) {now : Result Current RecordError} (is : CurrentIs (length w) (length ends) r now) where
+  told : {c : Result Current RecordError} → now ≡ c → held_by c ≡ current_of (length w) (length ends) r
   told e = ap held_by (sym e) ∙ is
 
-  inside : {start filled count : ℕ} → now ≡ At start filled count → (filled ≤ length w) × (count ≤ length ends)
+  inside : {c : Current} → now ≡ Ok c → (c.filled ≤ length w) × (c.count ≤ length ends)
   inside e = subst (Inside (length w) (length ends)) (sym (told e)) (current-inside (length w) (length ends) r)
 
   -- the parts that a view is handed
-  pub window-part : {start filled count : ℕ} → now ≡ At start filled count → filled ≡ length (take filled w)
-  window-part {start} {filled} {count} e = sym (length-take-le filled w (inside e).0)
+  pub window-part : {c : Current} → now ≡ Ok c → c.filled ≡ length (take c.filled w)
+  window-part {c} e = sym (length-take-le c.filled w (inside e).0)
 
-  pub ends-part : {start filled count : ℕ} → now ≡ At start filled count → count ≡ length (take count ends)
-  ends-part {start} {filled} {count} e = sym (length-take-le count ends (inside e).1)
-
-  -- what is shown in each case, a record's and each refusal's
-  pub in-case : {A : Type 0} (shown : List ℕ → ℕ → List ℕ → A) (refused : ℕ → A) {c : Current} → now ≡ c
-      → of_held w ends shown refused (held_by c) ≡ of_current r w ends shown refused
-  in-case shown refused e = ap (of_held w ends shown refused) (told e)
+  pub ends-part : {c : Current} → now ≡ Ok c → c.count ≡ length (take c.count ends)
+  ends-part {c} e = sym (length-take-le c.count ends (inside e).1)

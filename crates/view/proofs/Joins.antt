@@ -1,72 +1,36 @@
--- Laws of the joined lines: one line more, none left, what rising ends say of the line that is next, and the cases of the full sequence.
--- Assumes nothing.
+-- Laws of the joined lines: one line more in the scratch, and the cases of the full sequence. Assumes nothing.
 use Prim.Native.Nat.{ℕ, suc, ◌+◌, ◌-◌, ◌≤◌, ◌<◌}
 use native.Mathlib.Numerals.{add-one}
 use native.Mathlib.Nat.{zero-add}
 use native.Mathlib.Omega.{arith}
-use mathlib.Core.Bool.{true, false}
+use mathlib.Core.Bool.{true, false, false≢true}
 use mathlib.Core.List.{List, [], ◌∷◌, ◌++◌}
 use mathlib.Core.Path.{◌≡◌, refl, sym, ap, ◌∙◌}
-use lib.ListN.{length, get_or, take, drop, drop_of_length-le, length-append}
-use lib.Seq.{drop-cons, take-length}
+use lib.ListN.{length, get_or, take, drop, length-append}
+use lib.Seq.{take-length}
 use borrow.Author.Tests.{le-leb, lt-leb}
 use Rattle.meaning.specs.OnePass.{lines_at}
 use Rattle.scan.specs.Move.{pasted}
-use Rattle.scan.proofs.Paste.{length-pasted, pasted-behind, pasted-room}
+use Rattle.scan.proofs.Paste.{pasted-none, length-pasted, pasted-behind, pasted-room}
+use Rattle.meaning.specs.Parts.{joined}
+use Rattle.view.specs.Trimmed.{trimmed_at}
 use Rattle.view.specs.Rising.{rising}
 use Rattle.view.specs.View.{line_of}
-use Rattle.view.specs.Full.{window, front, refuses, left, filled, joined_at, whole_at, full_in, Lines}
-use Rattle.view.proofs.Rises.{first-inside, rising-rises, rises-at}
+use Rattle.view.specs.Full.{window, front, refuses, left, filled, joined_at, whole_at, full_in}
+use Rattle.view.proofs.Rises.{rising-rises}
 use Rattle.view.proofs.Heads.{line-within}
+use Rattle.view.proofs.Cases.{passed-on}
+use Rattle.view.proofs.TrimmedLemmas.{gives-line, two-left}
 
--- the next end e rises, and behind it the rest does
-pub record Next (w : List ℕ) (last e : ℕ) (rest : List ℕ) : Type 0 where
-  pub above : last < e
-  pub lines : Lines w e rest
-
-module _ (w : List ℕ) (last : ℕ) (ends : List ℕ) (i : ℕ) where
-  pub lines-at : i < length ends → Lines w last (drop i ends) → Next w last (get_or ends i 0) (drop (i + 1) ends)
-  lines-at k l =
-      let r = rises-at last ends i (length w) k l.rises in
-      record { above = r.0; lines = record { inside = r.1.0; rises = r.1.1 } }
-
-  pub joined-turn : (l : List ℕ) → i < length ends → l ≡ line_of w (last + 1) (get_or ends i 0)
-      → joined_at w (suc last) (drop i ends) ≡ l ++ joined_at w (suc (get_or ends i 0)) (drop (i + 1) ends)
-  unfolding lines_at
-  joined-turn l k e = rw (e, add-one, add-one, drop-cons ends i 0 k)
-
-  pub joined_end : length ends ≤ i → joined_at w (suc last) (drop i ends) ≡ []
-  unfolding lines_at
-  joined_end k = rw (drop_of_length-le ends {i = i} k)
-
-  -- the length still due is less by that of the line taken, which fits before its end
-  pub length-turn : (l : List ℕ) → i < length ends → l ≡ line_of w (last + 1) (get_or ends i 0)
-      → length (joined_at w (suc last) (drop i ends)) ≡ length l + length (joined_at w (suc (get_or ends i 0)) (drop (i + 1) ends))
-  length-turn l k e =
-      ap length (joined-turn l k e) ∙ length-append l (joined_at w (suc (get_or ends i 0)) (drop (i + 1) ends))
-
-  -- one line pasted behind the others leaves the rest to paste
-  pub paste-turn : (at : ℕ) (l scratch exit : List ℕ) → i < length ends → l ≡ line_of w (last + 1) (get_or ends i 0)
-      → at + length (joined_at w (suc last) (drop i ends)) ≤ length scratch → exit ≡ pasted at l scratch
-      → (length exit ≡ length scratch)
-      × ((at + length l + length (joined_at w (suc (get_or ends i 0)) (drop (i + 1) ends)) ≤ length exit)
-      × (pasted (at + length l) (joined_at w (suc (get_or ends i 0)) (drop (i + 1) ends)) exit ≡ pasted at (joined_at w (suc last) (drop i ends)) scratch))
-  paste-turn at l scratch exit k e room made =
-      let rest = joined_at w (suc (get_or ends i 0)) (drop (i + 1) ends) in
-      let due = length-turn l k e in
-      let same : length exit ≡ length scratch = ap length made ∙ length-pasted at l scratch (omega arith) in
-      let fits : at + length l + length rest ≤ length scratch = omega arith in (
-        same,
-        (
-          omega arith,
-          ap (pasted (at + length l) rest) made
-              ∙ pasted-behind at l rest scratch fits
-              ∙ ap (λ (t : List ℕ). pasted at t scratch) (sym (joined-turn l k e)),
-        ),
-      )
-
-pub next-within : {w : List ℕ} {last e : ℕ} {rest : List ℕ} (l : List ℕ) → Next w last e rest → l ≡ line_of w (last + 1) e → last + 1 + length l ≤ e
-next-within {w} {last} {e} l n q = omega (arith, n.above, ap length q, line-within w (last + 1) e n.lines.inside)
+-- one line pasted leaves those behind it to paste
+pub paste-line : (at : ℕ) (line rest scratch exit : List ℕ) → at + length (line ++ rest) ≤ length scratch → exit ≡ pasted at line scratch
+    → (at + length line + length rest ≤ length exit) × (pasted (at + length line) rest exit ≡ pasted at (line ++ rest) scratch)
+paste-line at line rest scratch exit room made =
+    let n = length-append line rest in
+    let fits : at + length line + length rest ≤ length scratch = omega arith in (
+      omega (arith, ap length made, length-pasted at line scratch (omega arith)),
+      ap (pasted (at + length line) rest) made ∙ pasted-behind at line rest scratch fits,
+    )
 
 -- a text that does not fit, and one that does
 pub filled-room : (text scratch : List ℕ) → length scratch < length text → filled text scratch ≡ left (refuses 9 (length text ∷ [])) scratch
@@ -112,16 +76,16 @@ pub others-are : (x : ℕ) (ends : List ℕ) → Others (x ∷ ends) ≡ ends
 others-are x ends = let e : length (x ∷ ends) - 1 ≡ length ends = omega arith in rw e (take-length ends)
 
 module _ (w : List ℕ) (start : ℕ) where
-  pub full-empty : (ends scratch : List ℕ) → length ends ≡ 0 → full_in w start ends scratch ≡ left (refuses 11 []) scratch
-  unfolding full_in
+  pub full-empty : (ends scratch : List ℕ) → trimmed_at w (suc start) ends ≡ [] → full_in w start ends scratch ≡ left (refuses 11 []) scratch
+  unfolding full_in lines_at
   full-empty [] scratch k = refl
-  full-empty (x ∷ ends) scratch k = absurd (omega arith)
+  full-empty (x ∷ ends) scratch k = absurd (cc)
 
-  pub full-falls : (ends scratch : List ℕ) → 0 < length ends → rising start ends (length w) ≡ false
+  pub full-falls : (ends scratch : List ℕ) → rising start ends (length w) ≡ false
       → full_in w start ends scratch ≡ left (refuses 11 []) scratch
   unfolding full_in
-  full-falls [] scratch k t = absurd (omega arith)
-  full-falls (x ∷ ends) scratch k t = rw t
+  full-falls [] scratch t = absurd (false≢true (sym t))
+  full-falls (x ∷ ends) scratch t = rw t
 
   pub full-some : (ends scratch : List ℕ) → 0 < length ends → rising start ends (length w) ≡ true
       → full_in w start ends scratch ≡ whole_at w (suc (get_or ends 0 0)) (Others ends) scratch
@@ -129,10 +93,40 @@ module _ (w : List ℕ) (start : ℕ) where
   full-some [] scratch k t = absurd (omega arith)
   full-some (x ∷ ends) scratch k t = rw (t, others-are x ends)
 
-  pub full-lines : (ends : List ℕ) → 0 < length ends → rising start ends (length w) ≡ true → Lines w (get_or ends 0 0) (Others ends)
-  full-lines [] k t = absurd (omega arith)
-  full-lines (x ∷ ends) k t =
-      rw (others-are x ends) (record {
-        inside = (first-inside start x ends (length w) t).1;
-        rises = (rising-rises start (x ∷ ends) (length w) t).1.1;
-      })
+  -- of one line behind the head its own part, of any other number the joined ones
+  pub full-one : (ends scratch head line : List ℕ) (more rest : List (List ℕ)) → rising start ends (length w) ≡ true → length ends ≡ 2
+      → trimmed_at w (suc start) ends ≡ head ∷ more → more ≡ line ∷ rest
+      → (get_or ends 0 0 + 1 + length line ≤ length w)
+      × (left (window (get_or ends 0 0 + 1) (get_or ends 0 0 + 1 + length line)) scratch ≡ full_in w start ends scratch)
+  unfolding full_in lines_at
+  full-one [] scratch head line more rest t k e f = absurd (omega arith)
+  full-one (x ∷ []) scratch head line more rest t k e f = absurd (omega arith)
+  full-one (x ∷ y ∷ []) scratch head line more rest t k e f =
+      let l : line_of w (suc x) y ≡ line = cc in
+      let r = (rising-rises start (x ∷ y ∷ []) (length w) t).1.1 in (
+        omega (arith, ap length l, line-within w (suc x) y r.1.0, r.0, r.1.0),
+        rw (t, ← l, add-one) refl,
+      )
+  full-one (x ∷ y ∷ z ∷ ends) scratch head line more rest t k e f = absurd (omega arith)
+
+  pub full-many : (ends scratch head : List ℕ) (rest : List (List ℕ)) → rising start ends (length w) ≡ true → (length ends ≡ 2 → ⊥)
+      → trimmed_at w (suc start) ends ≡ head ∷ rest → full_in w start ends scratch ≡ filled (joined rest) scratch
+  unfolding full_in lines_at
+  full-many [] scratch head rest t k e = absurd (cc)
+  full-many (x ∷ ends) scratch head rest t k e =
+      let r : trimmed_at w (suc x) ends ≡ rest = cc in
+      rw t (whole-many w x ends scratch (λ n. k (omega arith)) ∙ ap (λ (ls : List (List ℕ)). filled (joined ls) scratch) r)
+
+-- what the functions of the full sequence go by
+pub ruleset joined_steps = (
+  passed-on,
+  full-falls,
+  full-empty,
+  full-one,
+  full-many,
+  filled-room,
+  filled-done,
+  pasted-none,
+  gives-line,
+  two-left,
+)

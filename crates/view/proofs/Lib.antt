@@ -2,6 +2,7 @@
 pub mod Rises
 pub mod Heads
 pub mod Cases
+pub mod TrimmedLemmas
 pub mod Joins
 pub mod Places
 pub mod Meaning

@@ -23,8 +23,9 @@ use Rattle.view.specs.Full.{refuses as refuses9, left, filled, joined_at, whole_
 use Rattle.view.specs.Shows.{Shows}
 use Rattle.view.proofs.Rises.{rises-rising}
 use Rattle.view.proofs.Heads.{id-within, desc-none, desc-some}
-use Rattle.view.proofs.Cases.{First, line-behind, between_in, last-at, head-some, id-some, desc-without, desc-behind, seq-one, seq-some, line-past, line-some}
-use Rattle.view.proofs.Joins.{lines-at, filled-room, filled-done, whole-one, whole-many, Others, others-are, full-some, full-lines}
+use Rattle.view.specs.Steps.{First}
+use Rattle.view.proofs.Cases.{line-behind, between_in, last-at, head-some, id-some, desc-without, desc-behind, seq-one, seq-some, line-past, line-some}
+use Rattle.view.proofs.Joins.{filled-room, filled-done, whole-one, whole-many, Others, others-are, full-some}
 use Rattle.view.proofs.Places.{ends-rise, ends_some, rises-pair, rises-last, lines-index, drop-take, line-shown, id-shown, rest-shown}
 
 -- The record's bytes, which begin with a `>`, stand in X from start on, and the ends are those of its lines.
@@ -55,6 +56,11 @@ unfolding lines_at
 joined-one X a [] k = absurd (omega arith)
 joined-one X a (e ∷ []) k = rw add-one (append-nil (line_of X (suc a) e))
 joined-one X a (e ∷ f ∷ es) k = absurd (omega arith)
+
+others-first : (ends : List ℕ) → 1 < length ends → get_or (Others ends) 0 0 ≡ get_or ends 1 0
+others-first [] k = absurd (omega arith)
+others-first (e ∷ []) k = absurd (omega arith)
+others-first (e ∷ f ∷ es) k = rw (others-are e (f ∷ es)) refl
 
 module _ (X : List ℕ) (start : ℕ) (r : Rec) (ends : List ℕ) (s : Stands X start r ends) where
   inside : start + suc (length s.rest) ≤ length X
@@ -242,8 +248,9 @@ module _ (X : List ℕ) (start : ℕ) (r : Rec) (ends : List ℕ) (s : Stands X 
       let a = get_or ends 0 0 in
       let b = get_or (Others ends) 0 0 in
       let k : length (Others ends) ≡ 1 = others-count ∙ e in
-      let n = lines-at X a (Others ends) 0 (omega arith) (full-lines X start ends some_end all-rise) in
+      let p = rises-pair start ends (length X) 0 rises (omega (arith, e, count_is)) in
+      let second : b ≡ get_or ends 1 0 = others-first ends (omega (arith, e, count_is)) in
       rw (whole_is scratch ∙ whole-one X a (Others ends) scratch (line_of X (a + 1) b) k refl) (
-        line-shown X (a + 1) b (omega (arith, n.above)) n.lines.inside ∙ sym (joined-one X a (Others ends) k) ∙ joined_is,
+        line-shown X (a + 1) b (omega (arith, second, p.1.0)) (omega (arith, second, p.1.1)) ∙ sym (joined-one X a (Others ends) k) ∙ joined_is,
         refl,
       )

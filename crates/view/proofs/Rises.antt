@@ -1,13 +1,10 @@
 -- Laws of rising ends: the test by its first end, and that it holds exactly if they rise. Assumes nothing.
-use Prim.Native.Nat.{ℕ, suc, ◌+◌, ◌≤◌, ◌<◌}
-use native.Mathlib.Numerals.{add-one}
+use Prim.Native.Nat.{ℕ, ◌≤◌, ◌<◌}
 use native.Mathlib.Decide.{dec_le}
 use native.Mathlib.Omega.{arith}
 use mathlib.Core.Bool.{Bool, true, false, false≢true}
 use mathlib.Core.List.{List, [], ◌∷◌}
 use mathlib.Core.Path.{◌≡◌, refl, sym, ◌∙◌}
-use lib.ListN.{length, get_or, drop, drop_of_length-le}
-use lib.Seq.{drop-cons}
 use lib.Dec.{ltb, leb}
 use borrow.Author.Tests.{lt-ltb, le-leb, ltb-true, leb-true}
 use Rattle.view.specs.Rising.{rising, Rising}
@@ -45,21 +42,3 @@ rising-rises lo (e ∷ es) hi t =
 pub rises-rising : (lo : ℕ) (es : List ℕ) (hi : ℕ) → Rising lo es hi → rising lo es hi ≡ true
 rises-rising lo [] hi r = refl
 rises-rising lo (e ∷ es) hi r = rising-next lo e es hi r.0 r.1.0 ∙ rises-rising e es hi r.1.1
-
--- the ends from the i-th on
-module _ (lo : ℕ) (ends : List ℕ) (i hi : ℕ) where
-  -- the test passes an end, refuses one, or has passed all
-  pub turn-rises : i < length ends → lo < get_or ends i 0 → get_or ends i 0 ≤ hi
-      → rising lo (drop i ends) hi ≡ rising (get_or ends i 0) (drop (i + 1) ends) hi
-  turn-rises k h g = rw (add-one, drop-cons ends i 0 k) (rising-next lo (get_or ends i 0) (drop (suc i) ends) hi h g)
-
-  pub turn-falls : i < length ends → (lo < get_or ends i 0 → get_or ends i 0 ≤ hi → ⊥) → rising lo (drop i ends) hi ≡ false
-  turn-falls k never = rw (drop-cons ends i 0 k) (not-rising lo (get_or ends i 0) (drop (suc i) ends) hi never)
-
-  pub turn-ends : length ends ≤ i → rising lo (drop i ends) hi ≡ true
-  turn-ends k = rw (drop_of_length-le ends {i = i} k)
-
-  -- the fact, one end on
-  pub rises-at : i < length ends → Rising lo (drop i ends) hi
-      → (lo < get_or ends i 0) × ((get_or ends i 0 ≤ hi) × Rising (get_or ends i 0) (drop (i + 1) ends) hi)
-  rises-at k r = rw add-one (rw (drop-cons ends i 0 k) at r)

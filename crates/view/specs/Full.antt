@@ -1,13 +1,15 @@
 -- The full sequence (01, module 5): the window's own part when the record has exactly one line, else the front of the caller's scratch,
 -- holding the joined copy; the rest of it stays. Refusal 9 leaves the scratch unchanged. Assumes nothing.
-use Rattle.std.specs.Prelude.{ℕ, suc, ◌+◌, ◌≤◌, cond, List, [], ◌∷◌, ◌++◌, map, ◌≡◌, length, drop, leb}
+use Rattle.std.specs.Prelude.{ℕ, suc, ◌+◌, cond, List, [], ◌∷◌, ◌++◌, map, ◌≡◌, length, drop, leb, Result, Ok, Err}
 use Rattle.meaning.specs.Line.{trim_cr}
 use Rattle.meaning.specs.Parts.{joined}
 use Rattle.meaning.specs.OnePass.{lines_at}
-use Rattle.view.specs.Rising.{rising, Rising}
+use Rattle.view.specs.Rising.{rising}
 use Rattle.view.specs.View.{line_of, between}
 use Rattle.view.specs.declared.Full.{Full}
-use Rattle.view.specs.declared.Full.TheVariants.{Window, Scratch, NoRecord, Room, State}
+use Rattle.view.specs.declared.Full.TheVariants.{Window, Scratch}
+use Rattle.view.specs.declared.error.FullError.{FullError}
+use Rattle.view.specs.Refused.{number_of_full, values_of_full}
 
 -- what the view says: a part of the window, so many bytes at the front of the scratch, or a refusal by its number with its values
 pub data Whole : Type 0 where
@@ -15,12 +17,10 @@ pub data Whole : Type 0 where
   front : (n : ℕ) → Whole
   refuses : (number : ℕ) (values : List ℕ) → Whole
 
-abbrev pub says : Full → Whole
-says (Window from to) = window from to
-says (Scratch n) = front n
-says NoRecord = refuses 7 []
-says (Room n) = refuses 9 (n ∷ [])
-says State = refuses 11 []
+abbrev pub says : Result Full FullError → Whole
+says (Ok (Window extent)) = window extent.from extent.to
+says (Ok (Scratch n)) = front n
+says (Err error) = refuses (number_of_full error) (values_of_full error)
 
 -- an answer and the scratch behind it
 pub record Left : Type 0 where
@@ -62,19 +62,9 @@ picked w scratch (window from to) = between w from to
 picked w scratch (front n) = between scratch 0 n
 picked w scratch (refuses number values) = []
 
--- what is known of the ends behind a place, once all are found rising
-pub record Lines (w : List ℕ) (place : ℕ) (ends : List ℕ) : Type 0 where
-  pub inside : place ≤ length w
-  pub rises : Rising place ends (length w)
-
--- and where the joined copy fits the scratch
-pub record Fits (w : List ℕ) (place : ℕ) (ends scratch : List ℕ) : Type 0 where
-  pub lines : Lines w place ends
-  pub room : length (joined_at w (suc place) ends) ≤ length scratch
-
 -- the promises
-abbrev pub FullIn : (w : List ℕ) (start : ℕ) (ends scratch : List ℕ) → Full → (exit : List ℕ) → Type 0
+abbrev pub FullIn : (w : List ℕ) (start : ℕ) (ends scratch : List ℕ) → Result Full FullError → (exit : List ℕ) → Type 0
 FullIn w start ends scratch r exit = left (says r) exit ≡ full_in w start ends scratch
 
-abbrev pub Pick : Full → (w scratch r : List ℕ) → Type 0
+abbrev pub Pick : Result Full FullError → (w scratch r : List ℕ) → Type 0
 Pick full w scratch r = r ≡ picked w scratch (says full)

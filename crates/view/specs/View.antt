@@ -1,12 +1,14 @@
 -- Views of a record (01, module 5). The record is given in bytes w by the place of its `>` (start) and its recorded ends, the head's end
 -- first. A view answers the extent of a part; what it shows is the bytes there. Assumes nothing.
-use Rattle.std.specs.Prelude.{ℕ, suc, ◌+◌, ◌-◌, cond, ◌&&◌, List, [], ◌∷◌, ◌≡◌, length, get_or, take, drop, ltb, leb}
-use Rattle.std.proofs.Math.Option.{Option, none as without, some}
+use Rattle.std.specs.Prelude.{ℕ, suc, ◌+◌, ◌-◌, cond, ◌&&◌, List, [], ◌∷◌, ◌≡◌, length, get_or, take, drop, ltb, leb, Option, Some, None, Result, Ok, Err}
+use Rattle.std.proofs.Math.Option.{Option as Maybe, none as without, some}
 use Rattle.meaning.specs.Line.{trim_cr}
 use Rattle.meaning.specs.Parts.{id_of, desc_of}
 use Rattle.view.specs.Rising.{rising}
-use Rattle.view.specs.declared.View.{View}
-use Rattle.view.specs.declared.View.TheVariants.{Part, None, NoRecord, NoLine, State}
+use Rattle.view.specs.declared.Extent.{Extent}
+use Rattle.view.specs.declared.Record.{Record}
+use Rattle.view.specs.declared.error.ViewError.{ViewError}
+use Rattle.view.specs.Refused.{number_of_view}
 
 -- what a view says: the part from one place up to another, that there is none, or a refusal by its number with its values
 pub data Shown : Type 0 where
@@ -14,12 +16,14 @@ pub data Shown : Type 0 where
   none : Shown
   refuses : (number : ℕ) (values : List ℕ) → Shown
 
-abbrev pub says : View → Shown
-says (Part from to) = part from to
-says None = none
-says NoRecord = refuses 7 []
-says NoLine = refuses 8 []
-says State = refuses 11 []
+-- a `View`, since antt has no name for an alias
+abbrev pub Viewed : Type 0
+Viewed = Result (Option Extent) ViewError
+
+abbrev pub says : Viewed → Shown
+says (Ok (Some extent)) = part extent.from extent.to
+says (Ok None) = none
+says (Err error) = refuses (number_of_view error) []
 
 -- refusal 11, unless the ends that the call uses are rising between start and the bytes' length
 unfoldable pub if_rising : (w : List ℕ) (start : ℕ) (used : List ℕ) → Shown → Shown
@@ -47,7 +51,7 @@ id_in w start (e ∷ es) =
     if_rising w start (e ∷ []) (part (suc start) (suc start + length (id_of (line_of w (suc start) e))))
 
 -- the description: all after that space, or none without a space
-abbrev pub after : (place : ℕ) → Option (List ℕ) → Shown
+abbrev pub after : (place : ℕ) → Maybe (List ℕ) → Shown
 after place without = none
 after place (some desc) = part place (place + length desc)
 
@@ -94,24 +98,27 @@ shown_in w (part a e) = between w a e
 shown_in w none = []
 shown_in w (refuses number values) = []
 
--- the promises
-abbrev pub HeadIn : (w : List ℕ) (start : ℕ) (ends : List ℕ) → View → Type 0
+-- the promises; one of bytes, start and ends as one of a record
+abbrev pub Of : {A : Type 0} → (P : (w : List ℕ) (start : ℕ) (ends : List ℕ) → A → Type 0) → Record → A → Type 0
+Of P r = P r.bytes.now r.start r.ends.now
+
+abbrev pub HeadIn : (w : List ℕ) (start : ℕ) (ends : List ℕ) → Viewed → Type 0
 HeadIn w start ends r = says r ≡ head_in w start ends
 
-abbrev pub IdIn : (w : List ℕ) (start : ℕ) (ends : List ℕ) → View → Type 0
+abbrev pub IdIn : (w : List ℕ) (start : ℕ) (ends : List ℕ) → Viewed → Type 0
 IdIn w start ends r = says r ≡ id_in w start ends
 
-abbrev pub DescIn : (w : List ℕ) (start : ℕ) (ends : List ℕ) → View → Type 0
+abbrev pub DescIn : (w : List ℕ) (start : ℕ) (ends : List ℕ) → Viewed → Type 0
 DescIn w start ends r = says r ≡ desc_in w start ends
 
-abbrev pub SeqIn : (w : List ℕ) (start : ℕ) (ends : List ℕ) → View → Type 0
+abbrev pub SeqIn : (w : List ℕ) (start : ℕ) (ends : List ℕ) → Viewed → Type 0
 SeqIn w start ends r = says r ≡ seq_in w start ends
 
-abbrev pub LineIn : (w : List ℕ) (start : ℕ) (ends : List ℕ) (i : ℕ) → View → Type 0
+abbrev pub LineIn : (w : List ℕ) (start : ℕ) (ends : List ℕ) (i : ℕ) → Viewed → Type 0
 LineIn w start ends i r = says r ≡ line_in w start ends i
 
 abbrev pub NumberOfLines : (ends : List ℕ) (r : ℕ) → Type 0
 NumberOfLines ends r = r ≡ line_count ends
 
-abbrev pub ShownIn : View → (w r : List ℕ) → Type 0
+abbrev pub ShownIn : Viewed → (w r : List ℕ) → Type 0
 ShownIn view w r = r ≡ shown_in w (says view)

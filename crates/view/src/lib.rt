@@ -1,39 +1,40 @@
-// Views of a record (01, module 5) over bytes, the place of its `>` and its recorded ends, the head's end first: a window's current
-// record and a set's record are both such. Each is total: it tests the ends that it uses.
+// Views of a record (01, module 5) over bytes, the place of its `>` and its recorded ends: a window's current record
+// and a set's record are both such. Each view is total: it tests the ends that it uses.
 #![tactic(auto)]
 
 mod current;
+mod error;
 mod joined;
 mod parts;
+mod trimmed;
 
-pub use current::{desc, full_seq, head, id, line, lines, seq};
-pub use joined::{full_in, pick};
-pub use parts::{desc_in, head_in, id_in, line_in, number_of_lines, seq_in, shown};
+pub use current::{current_record, desc, full_seq, head, id, line, lines, seq};
+pub use error::{FullError, ViewError};
+pub use joined::pick;
+pub use parts::shown;
+pub use trimmed::TrimmedLines;
 
-// What a view answers: the extent of a part, that there is none (a head without a description), or refusal 7, 8 or 11.
-#[derive(Clone, Copy)]
-pub enum View {
-    Part { from: usize, to: usize },
-    None,
-    NoRecord,
-    NoLine,
-    State,
+// A record in bytes, by the place of its `>` and the recorded ends of its lines, the head's end first.
+#[derive(Clone, Copy, Debug, PartialEq, Eq)]
+pub struct Record<'b, 'e> {
+    pub bytes: &'b [u8],
+    pub start: usize,
+    pub ends: &'e [usize],
 }
 
-// What the full sequence answers: a part of the window, a length at the front of the scratch, or refusal 7, 9 with the need, or 11.
-#[derive(Clone, Copy)]
+// The place of a part: from a byte up to another.
+#[derive(Clone, Copy, Debug, PartialEq, Eq)]
+pub struct Extent {
+    pub from: usize,
+    pub to: usize,
+}
+
+// What a view answers: the extent of a part, that there is none (a head without a description), or a refusal.
+pub type View = Result<Option<Extent>, ViewError>;
+
+// Where the full sequence is: a part of the window, or so many bytes at the front of the scratch.
+#[derive(Clone, Copy, Debug, PartialEq, Eq)]
 pub enum Full {
-    Window { from: usize, to: usize },
+    Window(Extent),
     Scratch(usize),
-    NoRecord,
-    Room(usize),
-    State,
-}
-
-// What a count of sequence lines answers: their number, or refusal 7 or 11.
-#[derive(Clone, Copy)]
-pub enum Count {
-    Lines(usize),
-    NoRecord,
-    State,
 }

@@ -1,168 +1,142 @@
 // Views of one part: the head, its id and description, the raw sequence, one line.
-ghost use Rattle.std.specs.Prelude.{◌≡◌, [], ◌∷◌, suc, length};
-ghost use Rattle.meaning.specs.Parts.{id_of};
-ghost use Rattle.view.specs.View.{
-  says,
-  if_rising,
-  extent,
-  between,
-  HeadIn,
-  IdIn,
-  DescIn,
-  SeqIn,
-  LineIn,
-  NumberOfLines,
-  ShownIn,
-};
+ghost use Rattle.std.specs.Prelude.{◌≡◌, ◌+◌, ◌<◌, ◌^◌, length, position};
+ghost use Rattle.meaning.specs.Parts.{ends_id};
+ghost use Rattle.view.specs.View.{between, Of, HeadIn, IdIn, DescIn, SeqIn, LineIn, NumberOfLines, ShownIn};
+ghost use Rattle.view.specs.Steps.{HeadTextIs, TrimmedIs, BehindIs};
 
-use super::View;
+use crate::{Extent, Record, View, ViewError};
 
-// The head: the first line, without `>` and one trailing `\r`.
-pub fn head_in(bytes: &[u8], start: usize, ends: &[usize]) -> View
-    ensures { HeadIn bytes.now start ends.now result }
-{
-    if ends.len() == 0 {
-        return View::State;
+#[tactic(auto, using(crate::proofs::Cases::parts_steps))]
+impl<'b, 'e> Record<'b, 'e> {
+    // The head: the first line, without `>` and one trailing `\r`.
+    pub fn head(self) -> View
+        ensures { Of HeadIn self.entry result }
+    {
+        let head = self.head_text()?;
+        Ok(Some(Extent::behind(self.start, head)))
     }
-    behind(bytes, start, ends[0])
-}
 
-// The id: the head up to its first space.
-pub fn id_in(bytes: &[u8], start: usize, ends: &[usize]) -> View
-    ensures { IdIn bytes.now start ends.now result }
-{
-    if ends.len() == 0 {
-        return View::State;
+    // The id: the head up to its first space.
+    pub fn id(self) -> View
+        ensures { Of IdIn self.entry result }
+    {
+        let head = self.head_text()?;
+        let n = space_place(head).unwrap_or(head.len());
+        Ok(Some(Extent::behind(self.start, &head[..n])))
     }
-    let end = ends[0];
-    if end <= start || bytes.len() < end {
-        return View::State;
-    }
-    let from = start + 1;
-    let n = id_len(scan::trim_cr(&bytes[from..end]));
-    View::Part { from, to: from + n }
-}
 
-// The description: the head behind that space, or none without a space.
-pub fn desc_in(bytes: &[u8], start: usize, ends: &[usize]) -> View
-    ensures { DescIn bytes.now start ends.now result }
-{
-    if ends.len() == 0 {
-        return View::State;
-    }
-    let end = ends[0];
-    if end <= start || bytes.len() < end {
-        return View::State;
-    }
-    let from = start + 1;
-    let head = scan::trim_cr(&bytes[from..end]);
-    let n = id_len(head);
-    if n == head.len() {
-        return View::None;
-    }
-    View::Part {
-        from: from + n + 1,
-        to: from + head.len(),
-    }
-}
-
-// The raw sequence: from behind the first end to the last, without one final `\r`; empty without lines.
-pub fn seq_in(bytes: &[u8], start: usize, ends: &[usize]) -> View
-    ensures { SeqIn bytes.now start ends.now result }
-{
-    if ends.len() == 0 {
-        return View::State;
-    }
-    let first = ends[0];
-    if first <= start || bytes.len() < first {
-        return View::State;
-    }
-    if ends.len() == 1 {
-        return View::Part {
-            from: first,
-            to: first,
+    // The description: the head behind that space, or none without a space.
+    pub fn desc(self) -> View
+        ensures { Of DescIn self.entry result }
+    {
+        let head = self.head_text()?;
+        let Some(n) = space_place(head) else {
+            return Ok(None);
         };
+        Ok(Some(Extent::behind(self.start + 1 + n, &head[n + 1..])))
     }
-    behind(bytes, first, ends[ends.len() - 1])
+
+    // The raw sequence: from behind the first end to the last, without one final `\r`; empty without lines.
+    pub fn seq(self) -> View
+        ensures { Of SeqIn self.entry result }
+    {
+        // The head's end is used, so it has to rise.
+        self.head_text()?;
+        let first = self.ends[0];
+        if self.lines() == 0 {
+            return Ok(Some(Extent {
+                from: first,
+                to: first,
+            }));
+        }
+        self.behind(first, self.ends[self.lines()])
+    }
+
+    // Sequence line i, without one trailing `\r`.
+    pub fn line(self, i: usize) -> View
+        ensures { LineIn self.entry.bytes.now self.entry.start self.entry.ends.now i result }
+    {
+        if self.ends.is_empty() {
+            return Err(ViewError::State);
+        }
+        if self.lines() <= i {
+            return Err(ViewError::NoLine);
+        }
+        // The end before the line is used too.
+        let before = self.ends[i];
+        self.trimmed(self.start, before)?;
+        self.behind(before, self.ends[i + 1])
+    }
+
+    // The number of sequence lines.
+    pub fn lines(self) -> usize
+        ensures { NumberOfLines self.entry.ends.now result }
+    {
+        self.ends.len().saturating_sub(1)
+    }
+
+    // The head's text.
+    fn head_text(self) -> Result<&'b [u8], ViewError>
+        ensures { Of HeadTextIs self.entry result }
+    {
+        let end = self.ends.first().ok_or(ViewError::State)?;
+        self.trimmed(self.start, *end)
+    }
+
+    // The extent of the trimmed line from behind a place up to an end.
+    fn behind(self, place: usize, end: usize) -> View
+        ensures { BehindIs self.entry.bytes.now place end result }
+    {
+        let line = self.trimmed(place, end)?;
+        Ok(Some(Extent::behind(place, line)))
+    }
+
+    // Its text, where the end is above the place and in the bytes.
+    fn trimmed(self, place: usize, end: usize) -> Result<&'b [u8], ViewError>
+        ensures { TrimmedIs self.entry.bytes.now place end result }
+    {
+        if end <= place || self.bytes.len() < end {
+            return Err(ViewError::State);
+        }
+        Ok(scan::trim_cr(&self.bytes[place + 1..end]))
+    }
 }
 
-// Sequence line i, without one trailing `\r`.
-pub fn line_in(bytes: &[u8], start: usize, ends: &[usize], i: usize) -> View
-    ensures { LineIn bytes.now start ends.now i result }
-{
-    if ends.len() == 0 {
-        return View::State;
+impl Extent {
+    // That of a text behind the byte at a place.
+    pub(crate) fn behind(place: usize, text: &[u8]) -> Extent
+        requires { place + 1 + length text.now < 2 ^ 64 }
+        ensures { result ≡ record { from = place + 1; to = place + 1 + length text.now } }
+    {
+        let from = place + 1;
+        Extent {
+            from,
+            to: from + text.len(),
+        }
     }
-    if ends.len() - 1 <= i {
-        return View::NoLine;
-    }
-    let before = ends[i];
-    if before <= start {
-        return View::State;
-    }
-    behind(bytes, before, ends[i + 1])
-}
-
-// The number of sequence lines.
-pub fn number_of_lines(ends: &[usize]) -> usize
-    ensures { NumberOfLines ends.now result }
-{
-    if ends.len() == 0 {
-        return 0;
-    }
-    ends.len() - 1
 }
 
 // The part itself, empty on a refusal and where there is none.
+#[tactic(auto, unfolding(crate::specs::View::shown_in))]
 pub fn shown<'a>(view: View, bytes: &'a [u8]) -> &'a [u8]
     ensures { ShownIn view bytes.now result.now }
 {
     match view {
-        View::Part { from, to } => part(bytes, from, to),
-        View::None => &bytes[..0],
-        View::NoRecord => &bytes[..0],
-        View::NoLine => &bytes[..0],
-        View::State => &bytes[..0],
+        Ok(Some(extent)) => part(bytes, extent),
+        Ok(None) | Err(_) => &[],
     }
 }
 
-// The bytes from a place up to another, empty where they do not lie there.
-pub(crate) fn part<'a>(bytes: &'a [u8], from: usize, to: usize) -> &'a [u8]
-    ensures { result.now ≡ between bytes.now from to }
+// The bytes of an extent, empty where it does not lie there.
+pub(crate) fn part<'a>(bytes: &'a [u8], extent: Extent) -> &'a [u8]
+    ensures { result.now ≡ between bytes.now extent.from extent.to }
 {
-    if from <= to {
-        if to <= bytes.len() {
-            return &bytes[from..to];
-        }
-    }
-    &bytes[..0]
+    bytes.get(extent.from..extent.to).unwrap_or(&[])
 }
 
-// The trimmed line from behind one place up to an end, if that is above the place and in the bytes.
-fn behind(bytes: &[u8], place: usize, end: usize) -> View
-    ensures { says result ≡ if_rising bytes.now place (end ∷ []) (extent bytes.now (suc place) end) }
+// The place of a head's first space.
+fn space_place(head: &[u8]) -> Option<usize>
+    ensures { result ≡ position ends_id head.now }
 {
-    if end <= place || bytes.len() < end {
-        return View::State;
-    }
-    let from = place + 1;
-    let line = scan::trim_cr(&bytes[from..end]);
-    View::Part {
-        from,
-        to: from + line.len(),
-    }
-}
-
-// The length of a head's id.
-fn id_len(head: &[u8]) -> usize
-    ensures { result ≡ length (id_of head.now) }
-{
-    let mut i = 0;
-    while i < head.len() {
-        if head[i] == b' ' {
-            return i;
-        }
-        i += 1;
-    }
-    head.len()
+    head.iter().position(|b| *b == b' ')
 }

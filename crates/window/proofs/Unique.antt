@@ -1,22 +1,17 @@
 -- Each promise is an equation with a definition, so it allows one answer. Assumes nothing.
 use Prim.Native.Nat.{ℕ}
-use native.Mathlib.Omega.{arith}
 use mathlib.Core.Bool.{Bool}
 use mathlib.Core.List.{List}
-use mathlib.Core.Path.{◌≡◌, refl, sym, ap, ◌∙◌}
+use mathlib.Core.Path.{◌≡◌, sym, ◌∙◌}
+use Rattle.std.specs.Prelude.{Option}
 use Rattle.growth.specs.declared.Policy.{Policy}
+use Rattle.growth.proofs.Unique.{says-injective}
 use Rattle.window.specs.declared.offset.WindowOffset.{WindowOffset}
 use Rattle.window.specs.declared.offset.InputOffset.{InputOffset}
 use Rattle.window.specs.declared.fill.Fill.{Fill}
 use Rattle.window.specs.declared.fill.Ask.{Ask}
-use Rattle.window.specs.declared.fill.Report.{Report}
-use Rattle.window.specs.declared.fill.Report.TheVariants as report
-use Rattle.window.specs.declared.fill.Widened.{Widened}
-use Rattle.window.specs.declared.fill.Widened.TheVariants as widened
 use Rattle.window.specs.Offset.{ToInput, ToWindow}
 use Rattle.window.specs.Fill.{
-  report_says,
-  widened_says,
   New,
   IsSound,
   IsReady,
@@ -66,21 +61,8 @@ holds-unique at f r s = same-as
 pub empty-at-unique : (at : ℕ) (f r s : Fill) → EmptyAt at f r → EmptyAt at f s → r ≡ s
 empty-at-unique at f r s = same-as
 
--- an answer is known by what it says
-report-said : (r s : Report) → report_says r ≡ report_says s → r ≡ s
-report-said (report.Taken f) (report.Taken g) e = let same : f ≡ g = cc in ap report.Taken same
-report-said (report.Taken f) report.Refused e = absurd (let z : ◌≡◌ {A = ℕ} 0 1 = cc in omega arith)
-report-said report.Refused (report.Taken g) e = absurd (let z : ◌≡◌ {A = ℕ} 0 1 = cc in omega arith)
-report-said report.Refused report.Refused e = refl
+pub report-unique : (count : ℕ) (f : Fill) (r s : Option Fill) → Reports count f r → Reports count f s → r ≡ s
+report-unique count f r s a b = says-injective r s (same-as a b)
 
-pub report-unique : (count : ℕ) (f : Fill) (r s : Report) → Reports count f r → Reports count f s → r ≡ s
-report-unique count f r s a b = report-said r s (same-as a b)
-
-widened-said : (f : Fill) (r s : Widened) → widened_says r f ≡ widened_says s f → r ≡ s
-widened-said f (widened.To g) (widened.To h) e = let same : g ≡ h = cc in ap widened.To same
-widened-said f (widened.To g) widened.No e = absurd (let z : ◌≡◌ {A = ℕ} 0 1 = cc in omega arith)
-widened-said f widened.No (widened.To h) e = absurd (let z : ◌≡◌ {A = ℕ} 0 1 = cc in omega arith)
-widened-said f widened.No widened.No e = refl
-
-pub grow-unique : (f : Fill) (r s : Widened) → Grow f r → Grow f s → r ≡ s
-grow-unique f r s a b = widened-said f r s (same-as a b)
+pub grow-unique : (f : Fill) (r s : Option Fill) → Grow f r → Grow f s → r ≡ s
+grow-unique f r s a b = says-injective r s (same-as a b)

@@ -1,16 +1,13 @@
 -- The fill of a window (01, "The window and its refills"): what it holds, what is asked for, and what a report, a slide and a growth leave.
 -- Assumes nothing.
 use Rattle.std.specs.Prelude.{ℕ, ◌+◌, ◌-◌, ◌^◌, ◌≤◌, ◌<◌, min, Bool, true, false, cond, not, ◌&&◌, ◌||◌, List, ◌≡◌, eqb, ltb, leb}
+use Rattle.std.specs.Prelude as rattle
 use Rattle.std.proofs.Math.Option.{Option, none, some}
 use Rattle.growth.specs.declared.Policy.{Policy}
-use Rattle.growth.specs.Growth.{grown}
+use Rattle.growth.specs.Growth.{grown, says}
 use Rattle.scan.specs.Move.{moved_down}
 use Rattle.window.specs.declared.fill.Fill.{Fill}
 use Rattle.window.specs.declared.fill.Ask.{Ask}
-use Rattle.window.specs.declared.fill.Report.{Report}
-use Rattle.window.specs.declared.fill.Report.TheVariants as report
-use Rattle.window.specs.declared.fill.Widened.{Widened}
-use Rattle.window.specs.declared.fill.Widened.TheVariants as widened
 use Rattle.window.specs.Offset.{window_at, input_at}
 
 -- the most bytes that an input has
@@ -112,15 +109,7 @@ abbrev pub emptied : (at : ℕ) → Fill → Fill
 emptied at f =
     record { capacity = f.capacity; filled = 0; base = input_at at; told = false; asking = false; lent = f.lent; policy = f.policy }
 
--- what answers say
-abbrev pub report_says : Report → Option Fill
-report_says (report.Taken f) = some f
-report_says report.Refused = none
-
-abbrev pub widened_says : Widened → Fill → Option Fill
-widened_says (widened.To g) f = some g
-widened_says widened.No f = none
-
+-- a fill of the capacity that a policy names, if it names one
 abbrev pub wider : Option ℕ → Fill → Option Fill
 wider none f = none
 wider (some c) f = some (of_capacity c f)
@@ -141,14 +130,14 @@ AskFor f r = r ≡ ask_of f
 abbrev pub Asking : Bool → Fill → (r : Fill) → Type 0
 Asking b f r = r ≡ asking b f
 
-abbrev pub Reports : (count : ℕ) → Fill → (r : Report) → Type 0
-Reports count f r = report_says r ≡ reported count f
+abbrev pub Reports : (count : ℕ) → Fill → (r : rattle.Option Fill) → Type 0
+Reports count f r = says r ≡ reported count f
 
 abbrev pub Slide : (n : ℕ) → Fill → (w : List ℕ) (r : Fill) (exit : List ℕ) → Type 0
 Slide n f w r exit = (r ≡ slid n f) × (exit ≡ slid_window n f w)
 
-abbrev pub Grow : Fill → (r : Widened) → Type 0
-Grow f r = widened_says r f ≡ wider (widened_to f) f
+abbrev pub Grow : Fill → (r : rattle.Option Fill) → Type 0
+Grow f r = says r ≡ wider (widened_to f) f
 
 abbrev pub Holds : (at : ℕ) → Fill → (r : Bool) → Type 0
 Holds at f r = r ≡ holds at f

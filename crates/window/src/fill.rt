@@ -1,13 +1,14 @@
 // The fill of a window: what it holds, and what a caller is asked for and reports.
 ghost use Rattle.std.specs.Prelude.{◌≡◌, ◌+◌, ◌-◌, ltb};
-ghost use Rattle.window.specs.Fill.{HasRoom, ended, most, took, New, IsSound, IsReady, AskFor, Asking, Reports, Slide, Grow, Holds, EmptyAt};
+ghost use Rattle.window.specs.Fill.{most, New, IsSound, IsReady, AskFor, Asking, Reports, Slide, Grow, Holds, EmptyAt};
 
-use crate::offset::{InputOffset, WindowOffset, to_input};
-use growth::{Growth, Policy};
+use crate::offset::{InputOffset, WindowOffset, to_input, to_window};
+use growth::Policy;
 
-// The first `filled` bytes of the window hold the input from `base` on. `told`: the end was told. `asking`: an ask is open.
-// `lent`: the window's length at setup.
-#[derive(Clone, Copy)]
+// The first `filled` bytes of the window hold the input from `base` on. `told`: the end was told. `asking`: an ask is
+// open. `lent`: the window's length at setup. The two are flags, as 01 has them: `Sound`, refusal 11's part here, is
+// stated over each alone.
+#[derive(Clone, Copy, Debug, PartialEq, Eq)]
 pub struct Fill {
     pub capacity: usize,
     pub filled: usize,
@@ -19,29 +20,12 @@ pub struct Fill {
 }
 
 // What is asked for: `room` bytes of the input from `offset` on, to be put into the window at `place`.
-#[derive(Clone, Copy)]
+#[derive(Clone, Copy, Debug, PartialEq, Eq)]
 pub struct Ask {
     pub place: WindowOffset,
     pub room: usize,
     pub offset: InputOffset,
 }
-
-// What a report comes to.
-#[derive(Clone, Copy)]
-pub enum Report {
-    Taken(Fill),
-    Refused,
-}
-
-// What growing comes to.
-#[derive(Clone, Copy)]
-pub enum Widened {
-    To(Fill),
-    No,
-}
-
-// The input has at most this many bytes.
-const MOST: u64 = 4611686018427387904;
 
 impl Fill {
     pub fn new(capacity: usize, policy: Policy, lent: usize) -> Fill
@@ -62,14 +46,10 @@ impl Fill {
     pub fn is_sound(self) -> bool
         ensures { IsSound self result }
     {
-        if self.capacity < self.filled || self.lent < self.capacity {
-            return false;
-        }
-        if self.asking && self.filled == self.capacity {
-            return false;
-        }
-        let base = self.base;
-        MOST >= base.0 && MOST - base.0 >= self.filled as u64
+        self.filled <= self.capacity
+            && self.capacity <= self.lent
+            && (!self.asking || self.filled < self.capacity)
+            && !self.passes(0)
     }
 
     // Filled to its capacity, or the end was told.
@@ -83,100 +63,68 @@ impl Fill {
     pub fn ask(self) -> Ask
         ensures { AskFor self result }
     {
-        let filled = self.filled;
-        let base = self.base;
-        let room = less(self.capacity, filled);
-        let offset = to_input(base, WindowOffset(filled));
+        let place = WindowOffset(self.filled);
         Ask {
-            place: WindowOffset(filled),
-            room,
-            offset,
+            place,
+            room: self.room(),
+            offset: to_input(self.base, place),
         }
     }
 
-    // An ask is open, or none is.
-    pub fn asking(mut self, is_open: bool) -> Fill
+    // An ask is open, or none is: the flag is set, and chooses no step.
+    pub fn asking(self, is_open: bool) -> Fill
         ensures { Asking is_open self result }
     {
-        self.asking = is_open;
-        self
+        Fill {
+            asking: is_open,
+            ..self
+        }
     }
 
-    // The caller reports `count` bytes; 0 tells the end.
-    pub fn report(self, count: usize) -> Report
+    // The caller reports `count` bytes; 0 tells the end. None where the report is refused.
+    pub fn report(self, count: usize) -> Option<Fill>
         ensures { Reports count self result }
     {
-        let base = self.base;
-        let room = less(self.capacity, self.filled);
-        if !self.asking || room < count {
-            return Report::Refused;
+        if !self.asking || self.room() < count || self.passes(count) {
+            return None;
         }
-        if passes(base, self.filled, count) {
-            return Report::Refused;
-        }
-        if count == 0 {
-            return Report::Taken(self.end());
-        }
-        Report::Taken(self.take(count))
-    }
-
-    // n bytes more.
-    fn take(mut self, n: usize) -> Fill
-        requires { HasRoom n self }
-        ensures { result ≡ took n self }
-    {
-        self.filled = self.filled + n;
-        self.asking = false;
-        self
-    }
-
-    // The end is told.
-    fn end(mut self) -> Fill
-        ensures { result ≡ ended self }
-    {
-        self.told = true;
-        self.asking = false;
-        self
+        let told = self.told || count == 0;
+        Some(Fill {
+            filled: self.filled + count,
+            told,
+            asking: false,
+            ..self
+        })
     }
 
     // The first n bytes are dropped: those behind them move to the front, and bytes behind the moved part stay.
     pub fn slide(self, window: &mut [u8], n: usize) -> Fill
         ensures { Slide n self window.old result window.new }
     {
-        let filled = self.filled;
-        let base = self.base;
-        if filled < n || passes(base, filled, 0) {
+        if self.filled < n || self.passes(0) {
             return self;
         }
-        scan::move_down(window, n, filled);
-        let at = to_input(base, WindowOffset(n));
+        scan::move_down(window, n, self.filled);
         Fill {
-            filled: filled - n,
-            base: at,
+            filled: self.filled - n,
+            base: to_input(self.base, WindowOffset(n)),
             ..self
         }
     }
 
-    // The capacity that the policy names next, if it names one.
-    pub fn grow(self) -> Widened
+    // With the capacity that the policy names next, if it names one.
+    pub fn grow(self) -> Option<Fill>
         ensures { Grow self result }
     {
-        let policy = self.policy;
-        match policy.grow_to(self.capacity, self.lent) {
-            Growth::To(capacity) => Widened::To(Fill { capacity, ..self }),
-            Growth::No => Widened::No,
-        }
+        let capacity = self.policy.grow_to(self.capacity, self.lent)?;
+        Some(Fill { capacity, ..self })
     }
 
     // The window holds a place of the input.
     pub fn holds(self, at: InputOffset) -> bool
         ensures { Holds at.0 self result }
     {
-        let base = self.base;
-        if at.0 < base.0 {
-            return false;
-        }
-        at.0 - base.0 < self.filled as u64
+        self.base <= at && to_window(self.base, at).0 < self.filled
     }
 
     // Emptied, to be filled from a place of the input on; the end is forgotten.
@@ -191,26 +139,19 @@ impl Fill {
             ..self
         }
     }
-}
 
-// The input would go past its most bytes: `filled` and `count` more from `base` on.
-fn passes(base: InputOffset, filled: usize, count: usize) -> bool
-    ensures { result ≡ ltb most (base.0 + filled + count) }
-{
-    if MOST < base.0 {
-        return true;
+    // How many bytes the capacity has room for.
+    fn room(self) -> usize
+        ensures { result ≡ self.capacity - self.filled }
+    {
+        self.capacity.saturating_sub(self.filled)
     }
-    let left = MOST - base.0;
-    let f = filled as u64;
-    if left < f {
-        return true;
-    }
-    left - f < count as u64
-}
 
-// a less b, or 0 where b is larger
-fn less(a: usize, b: usize) -> usize
-    ensures { result ≡ a - b }
-{
-    if a < b { 0 } else { a - b }
+    // With `count` bytes more the input would go past its most.
+    fn passes(self, count: usize) -> bool
+        ensures { result ≡ ltb most (self.base.0 + self.filled + count) }
+    {
+        let end = to_input(self.base, WindowOffset(self.filled));
+        to_input(end, WindowOffset(count)).0 > InputOffset::MOST
+    }
 }

@@ -1,19 +1,18 @@
 -- Laws of `Put`: putting a text behind another is putting both at once. What is still to be put is followed by `Rest`: the rest, put
 -- where the last part ended, gives what the whole text gives. Assumes nothing.
-use Prim.Native.Nat.{ℕ, ◌+◌, ◌-◌, ◌≤◌, ◌<◌, min}
-use native.Mathlib.Decide.{dec_le}
+use Prim.Native.Nat.{ℕ, ◌+◌, ◌≤◌, ◌<◌, min}
 use native.Mathlib.Omega.{arith}
 use mathlib.Core.Path.{◌≡◌, refl, sym, ap, subst, ◌∙◌}
-use mathlib.Core.Bool.{Bool}
-use mathlib.Core.List.{List, [], ◌∷◌, ◌++◌, append_assoc}
-use mathlib.Core.Option.{Option, none, some}
-use lib.ListN.{length, take, drop, length-append, length-drop, drop_of_length-le}
-use lib.Seq.{take_all, take-length, drop-length, drop-drop, append_snoc}
+use mathlib.Core.List.{List, [], ◌∷◌, ◌++◌}
+use lib.ListN.{length, get_or, take, drop, length-append}
+use lib.Seq.{drop-cons, take-append_seam, drop-append_seam, append_snoc}
+use Rattle.std.specs.Borrow.{Bor}
+use Rattle.std.proofs.Common.{add-one}
+use Rattle.std.proofs.lemmas.Grind.{common_steps}
 use Rattle.scan.specs.Move.{pasted}
 use Rattle.scan.proofs.Paste.{length-pasted, pasted-behind, pasted-none}
-use Rattle.write.specs.Output.{described}
-use Rattle.write.specs.Put.{Fits, Put, desc_end}
-use Rattle.write.specs.Text.{id_desc_text, seq_text, wrap_seq_text}
+use Rattle.write.specs.Put.{Fits, Put, text_of}
+use Rattle.write.specs.Text.{seq_text, wrap_seq_text}
 use Rattle.write.proofs.Wrap.{wrap-line}
 
 -- room for two texts is room for the first
@@ -60,41 +59,33 @@ put_as {at} {r} {a} {b} {out} {exit} e p = subst (λ (text : List ℕ). Put at t
 pub rest-as : {at m : ℕ} {text out a b mid : List ℕ} → a ≡ b → Rest at text out m a mid → Rest at text out m b mid
 rest-as {at} {m} {text} {out} {a} {b} {mid} e r = subst (λ (rest : List ℕ). Rest at text out m rest mid) e r
 
--- what stands behind an id, by what is known of the flag
-pub desc-by : {b t : Bool} (desc : List ℕ) → b ≡ t → desc_end (described b desc) ≡ desc_end (described t desc)
-desc-by desc e = ap (λ (x : Bool). desc_end (described x desc)) e
-
--- a head of id and description, as it is put
-pub id-desc-parts : (id : List ℕ) (desc : Option (List ℕ)) → id_desc_text id desc ≡ 62 ∷ (id ++ desc_end desc)
-id-desc-parts id none = refl
-id-desc-parts id (some desc) = ap (λ (l : List ℕ). 62 ∷ l) (append_assoc id (32 ∷ desc) (10 ∷ []))
-
 -- a number of elements and that number cut at the length take and drop the same
 take-cut : (n : ℕ) (l : List ℕ) → take (min n (length l)) l ≡ take n l
-take-cut n l = go (dec_le n (length l))
-  where
-    go : Dec (n ≤ length l) → take (min n (length l)) l ≡ take n l
-    go (yes u) = let e : min n (length l) ≡ n = omega arith in ap (λ (k : ℕ). take k l) e
-    go (no u) =
-        let e : min n (length l) ≡ length l = omega arith in
-        ap (λ (k : ℕ). take k l) e ∙ take-length l ∙ sym (take_all n l (omega arith))
+take-cut n l = grind (arith, common_steps)
 
 drop-cut : (n : ℕ) (l : List ℕ) → drop (min n (length l)) l ≡ drop n l
-drop-cut n l = go (dec_le n (length l))
-  where
-    go : Dec (n ≤ length l) → drop (min n (length l)) l ≡ drop n l
-    go (yes u) = let e : min n (length l) ≡ n = omega arith in ap (λ (k : ℕ). drop k l) e
-    go (no u) =
-        let e : min n (length l) ≡ length l = omega arith in
-        ap (λ (k : ℕ). drop k l) e ∙ drop-length l ∙ sym (drop_of_length-le l {i = n} (omega arith))
+drop-cut n l = grind (arith, common_steps)
 
--- the lines from `i` on: the one up to `e`, and those from there on
-pub wrap-next : (wrap i e : ℕ) (seq : List ℕ) → 0 < wrap → i < length seq → e ≡ min (i + wrap) (length seq)
-    → wrap_seq_text wrap (drop i seq) ≡ seq_text (take (e - i) (drop i seq)) ++ wrap_seq_text wrap (drop e seq)
-wrap-next wrap i e seq w h cut =
-    let n : e - i ≡ min wrap (length (drop i seq)) = omega (arith, length-drop i seq) in
-    let line : take (e - i) (drop i seq) ≡ take wrap (drop i seq) = ap (λ (k : ℕ). take k (drop i seq)) n ∙ take-cut wrap (drop i seq) in
-    let rest : drop e seq ≡ drop wrap (drop i seq) = ap (λ (k : ℕ). drop k seq) cut ∙ drop-cut (i + wrap) seq ∙ sym (drop-drop wrap i seq) in
-    wrap-line wrap (drop i seq) w (omega (arith, length-drop i seq))
-    ∙ sym (append_snoc (take wrap (drop i seq)) 10 (wrap_seq_text wrap (drop wrap (drop i seq))))
-    ∙ (λ j. (sym line j ++ (10 ∷ [])) ++ wrap_seq_text wrap (sym rest j))
+-- the first line of a sequence, as `chunks` cuts it, and the lines of what is left
+pub lines-next : {wrap size : ℕ} {s : List ℕ} (line rest : List ℕ) → 0 < wrap → size ≡ wrap
+    → (s ≡ line ++ rest) × (length line ≡ min size (length s)) × (0 < length s)
+    → wrap_seq_text wrap s ≡ seq_text line ++ wrap_seq_text wrap rest
+lines-next {wrap} {size} {s} line rest w wide (e, cut, h) =
+    let n : min wrap (length s) ≡ length line = omega arith in
+    let first : take wrap s ≡ line = sym (take-cut wrap s) ∙ (λ i. take (n i) (e i)) ∙ take-append_seam line rest in
+    let behind : drop wrap s ≡ rest = sym (drop-cut wrap s) ∙ (λ i. drop (n i) (e i)) ∙ drop-append_seam line rest in
+    wrap-line wrap s w h
+    ∙ (λ i. first i ++ (10 ∷ wrap_seq_text wrap (behind i)))
+    ∙ sym (append_snoc line 10 (wrap_seq_text wrap rest))
+
+-- the i-th part put, those behind it are still to be put
+pub rest-part : {at m : ℕ} {text out mid next : List ℕ} (parts : List (Bor (List ℕ))) (i : ℕ) (d : Bor (List ℕ)) → i < length parts
+    → at + length text ≤ length mid
+    → Rest at text out m (text_of (drop i parts)) mid
+    → next ≡ pasted m (get_or parts i d).now mid
+    → Rest at text out (m + length (get_or parts i d).now) (text_of (drop (i + 1) parts)) next
+rest-part {at} {m} {text} {out} {mid} parts i d h fits r e =
+    let behind = text_of (drop (i + 1) parts) in
+    let now : text_of (drop i parts) ≡ (get_or parts i d).now ++ behind =
+    rw add-one (ap text_of (drop-cons parts i d h)) in
+    rest-next behind (omega (arith, ap length now, r.place)) (rest-as now r) (record { place = refl; holds = e })

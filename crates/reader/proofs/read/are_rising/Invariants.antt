@@ -1,12 +1,7 @@
--- The loop of `are_rising`.
-use Prim.Native.Nat.{◌-◌, ◌≤◌}
-use mathlib.Core.Path.{◌≡◌}
-use lib.ListN.{length, drop}
+-- The loop of `are_rising`: whether the ends rise from the start is whether those left rise from the last one passed.
+use Rattle.std.proofs.Common.{◌≡◌, drop}
 use Rattle.reader.specs.State.{rising}
 use Rattle.reader.proofs.read.are_rising.Given as goal
 
-abbrev pub invariant-loop-i : goal.invariant-loop-i
-invariant-loop-i l = (l.i ≤ length l.ends) × (rising l.lo l.ends l.hi ≡ rising l.last (drop l.i l.ends) l.hi)
-
-abbrev pub decreases-loop-i : goal.decreases-loop-i
-decreases-loop-i l = length l.ends - l.i
+abbrev pub invariant-loop-end : goal.invariant-loop-end
+invariant-loop-end l = rising l.lo l.ends l.hi ≡ rising l.last (drop l.end-index l.ends) l.hi

@@ -1,12 +1,9 @@
--- `write_in` is the writer of lines with a width above every sequence. Assumes nothing.
-use Prim.Native.Nat.{◌-◌, ◌^◌}
-use native.Mathlib.Omega.{arith}
-use mathlib.Core.Path.{◌∙◌}
+-- Lines wider than the bytes are long are one line. Assumes nothing.
+use Rattle.std.proofs.Common.{arith, ◌-◌, ◌^◌, ◌∙◌}
 use Rattle.rewrite.proofs.Records.{one_line}
 use Rattle.rewrite.proofs.lines.write_in.Goals as goal
 
 pub returns : goal.returns
 returns c =
-    let a = c.args in
-    c.write_lines.ensures
-    ∙ one_line a.bytes.now a.start a.ends.now (2 ^ 64 - 1) a.out.now (omega (arith, c.well_formed.0.1))
+    let g = c.args.given in
+    c.write_wrap_in.ensures ∙ one_line g.bytes.now g.start g.ends.now (2 ^ 64 - 1) c.args.out.now (omega (arith, c.ranges.given))

@@ -1,24 +1,35 @@
 -- `write_unchanged_in` tests the last end and leaves the rest to `write_copy`. Assumes nothing.
-use native.Mathlib.Omega.{arith}
-use mathlib.Core.Path.{sym, ◌∙◌}
-use borrow.Author.Tests.{ltb-true, ltb-false}
-use Rattle.rewrite.proofs.Cases.{unchanged-empty, unchanged-falls, unchanged-some}
-use Rattle.rewrite.proofs.unchanged.write_unchanged_in.Goals.{then-last-start-via-else-last-start+then-bytes-last, then-last-start-via-then-last-start}
+use Rattle.std.proofs.Common.{Bor, List, ℕ, arith, sym, ap, ◌∙◌}
+use borrow.Author.Tests.{ltb-false}
+use Rattle.write.specs.Output.{filled}
+use Rattle.write.specs.Text.{seq_text}
+use Rattle.rewrite.proofs.Cases.{unchanged-empty, unchanged-falls, unchanged-some, stripped, as-write}
 use Rattle.rewrite.proofs.unchanged.write_unchanged_in.Goals as goal
 
-pub returns-then-ends-eq0 : goal.returns-then-ends-eq0
-returns-then-ends-eq0 c =
-    let a = c.args in
-    sym (unchanged-empty a.bytes.now a.start a.ends.now a.out.now c.if-ends-eq0.true)
+pub returns-in_default : goal.returns-in_default
+returns-in_default c =
+    let g = c.args.given in
+    sym (unchanged-empty g.bytes.now g.start g.ends.now c.args.out.now (omega (arith, ltb-false, c.in_default.ensures.item)))
 
 pub returns-then-last-start : goal.returns-then-last-start
 returns-then-last-start c =
-    let a = c.args in
-    sym (unchanged-falls a.bytes.now a.start a.ends.now a.out.now (omega arith)
-    (λ h k. elim c.then-last-start.branch [ then-last-start-via-then-last-start w ↦ omega arith | then-last-start-via-else-last-start+then-bytes-last w ↦ omega (arith, ltb-true) ]))
+    let g = c.args.given in
+    let last = c.in-Some.ensures.item.3 in
+    sym (unchanged-falls g.bytes.now g.start g.ends.now c.args.out.now last.0 (last.1 0) (λ h k. omega (arith, c.then-last-start.either)))
+
+pub returns-in_err-write_seq : goal.returns-in_err-write_seq
+returns-in_err-write_seq c =
+    let g = c.args.given in
+    let last = c.in-Some.ensures.item.3 in
+    as-write c.from_residual.result _ c.write_seq.new.out c.from_residual.ensures
+    ∙ c.in_err-write_seq.ensures
+    ∙ ap (λ (t : List ℕ). filled t c.args.out.now) (ap (λ (b : Bor (List ℕ)). seq_text b.now) c.unwrap_or-text.ensures ∙ stripped _ _ c.strip_suffix.ensures.cases)
+    ∙ sym (unchanged-some g.bytes.now g.start g.ends.now c.args.out.now last.0 (last.1 0) c.if-last-start.false c.if-bytes-last.false)
 
 pub returns : goal.returns
 returns c =
-    let a = c.args in
-    c.write_copy.ensures
-    ∙ sym (unchanged-some a.bytes.now a.start a.ends.now a.out.now (omega (arith, c.if-ends-eq0.false)) (omega (arith, c.if-last-start.false)) (omega (arith, ltb-false, c.if-bytes-last.false-raw)))
+    let g = c.args.given in
+    let last = c.in-Some.ensures.item.3 in
+    c.in_ok-write_seq.ensures
+    ∙ ap (λ (t : List ℕ). filled t c.args.out.now) (ap (λ (b : Bor (List ℕ)). seq_text b.now) c.unwrap_or-text.ensures ∙ stripped _ _ c.strip_suffix.ensures.cases)
+    ∙ sym (unchanged-some g.bytes.now g.start g.ends.now c.args.out.now last.0 (last.1 0) c.if-last-start.false c.if-bytes-last.false)

@@ -1,14 +1,12 @@
--- The loop of `search`.
-use Prim.Native.Nat.{◌-◌}
-use mathlib.Core.Path.{◌≡◌}
-use lib.ListN.{length, drop}
+-- The loop of `search`: the search from the present place is the search asked for.
+use Rattle.std.proofs.Common.{◌≡◌, ◌-◌, length}
+use Rattle.std.specs.Prelude.{drop}
 use Rattle.scan.specs.Search.{searched}
 use Rattle.scan.proofs.ends.search.Given as goal
 
-abbrev pub invariant-loop-i : goal.invariant-loop-i
-invariant-loop-i l =
-    (length l.ends ≡ length l.initial.ends)
-    × (searched l.mark l.limit (drop l.from l.bytes) l.from l.count l.initial.ends ≡ searched l.mark l.limit (drop l.i l.bytes) l.i l.n l.ends)
+abbrev pub invariant-loop-at : goal.invariant-loop-at
+invariant-loop-at l =
+    searched l.mark l.limit (drop l.from l.bytes) l.from l.fn.count l.fn.ends ≡ searched l.mark l.limit (drop l.at l.bytes) l.at l.count l.ends
 
-abbrev pub decreases-loop-i : goal.decreases-loop-i
-decreases-loop-i l = length l.bytes - l.i
+abbrev pub decreases-loop-at : goal.decreases-loop-at
+decreases-loop-at l = length l.bytes - l.at

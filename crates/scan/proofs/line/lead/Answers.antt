@@ -1,56 +1,56 @@
 -- `lead` goes from line to line. The loop's invariant: the lead from the present place is the lead asked for. Assumes nothing.
-use Prim.Native.Nat.{ℕ, ◌+◌}
-use native.Mathlib.Omega.{arith}
-use mathlib.Core.Path.{refl, sym, ap, ◌∙◌}
-use lib.ListN.{drop}
+use Rattle.std.proofs.Common.{ℕ, List, ◌≡◌, ◌+◌, ◌-◌, ◌<◌, length, sym, ap, ◌∙◌, arith}
+use Rattle.std.specs.Prelude.{take, drop}
+use Rattle.std.specs.Cmp.Lexicographic.{same_text, other_text}
+use Rattle.std.proofs.lemmas.List.{length-drop, drop-drop, drop_all}
+use Rattle.std.proofs.lemmas.Slice.{between_to_end}
 use Rattle.scan.specs.Search.{lead_at}
-use Rattle.scan.proofs.LeadLaws.{lead-past, lead-empty, lead-other, lead-cr-last, lead-cr-other, lead-cr}
-use Rattle.scan.proofs.line.lead.Goals.{else-x-eq10+else-x-ne13+else-next-bytes+else-bytes-next-ne10, then-x-eq10}
+use Rattle.scan.proofs.LeadLaws.{lead-none, lead-empty, lead-cr, lead-other}
+use Rattle.scan.proofs.line.lead.Goals.{then-starts_with, else-starts_with+then-starts_with-2}
 use Rattle.scan.proofs.line.lead.Goals as goal
 
-pub loop-i-init : goal.loop-i-init
-loop-i-init c = (omega arith, refl)
+-- the bytes from a place on
+rest : (s : List ℕ) (i : ℕ) → drop i s ≡ take (length s - i) (drop i s)
+rest s i = sym (between_to_end s i (length s) (omega arith))
 
-pub returns-then-x-ne13 : goal.returns-then-x-ne13
-returns-then-x-ne13 c =
-    c.next_line.ensures
-    ∙ sym (c.loop-i.invariant.1
-    ∙ lead-other c.args.bytes.now c.loop-i.i c.loop-i.n c.loop-i-test.true c.if-x-eq10.false c.if-x-ne13.true)
-
-pub returns-then-next-bytes : goal.returns-then-next-bytes
-returns-then-next-bytes c =
-    c.next_line-then-next-bytes.ensures
-    ∙ sym (c.loop-i.invariant.1
-    ∙ lead-cr-last c.args.bytes.now c.loop-i.i c.loop-i.n c.if-next-bytes.true c.if-x-ne13.false)
-
-pub returns-then-bytes-next-ne10 : goal.returns-then-bytes-next-ne10
-returns-then-bytes-next-ne10 c =
-    c.next_line-then-bytes-next-ne10.ensures
-    ∙ sym (c.loop-i.invariant.1
-    ∙ lead-cr-other c.args.bytes.now c.loop-i.i c.loop-i.n (omega arith) c.if-x-ne13.false c.if-bytes-next-ne10.true)
-
-pub overflow_add-n : goal.overflow_add-n
-overflow_add-n c = elim c.if-x-eq10.branch [ then-x-eq10 w ↦ omega arith | else-x-eq10+else-x-ne13+else-next-bytes+else-bytes-next-ne10 w ↦ omega arith ]
-
-pub loop-i-smaller : goal.loop-i-smaller
-loop-i-smaller c = elim c.if-x-eq10.branch [ then-x-eq10 w ↦ omega arith | else-x-eq10+else-x-ne13+else-next-bytes+else-bytes-next-ne10 w ↦ omega arith ]
-
-pub loop-i-preserved : goal.loop-i-preserved
-loop-i-preserved c =
+pub returns-else-starts_with-2 : goal.returns-else-starts_with-2
+returns-else-starts_with-2 c =
     let s = c.args.bytes.now in
-    let n = c.loop-i.n in (
-      elim c.if-x-eq10.branch [ then-x-eq10 w ↦ omega arith | else-x-eq10+else-x-ne13+else-next-bytes+else-bytes-next-ne10 w ↦ omega arith ],
-      c.loop-i.invariant.1
-          ∙ elim c.if-x-eq10.branch [
-            | then-x-eq10 w ↦ lead-empty s c.loop-i.i n c.loop-i-test.true w.if-x-eq10.true
-                ∙ ap (λ (k : ℕ). lead_at (drop k s) k (n + 1)) (sym w.i-is)
-            | else-x-eq10+else-x-ne13+else-next-bytes+else-bytes-next-ne10 w ↦ lead-cr s c.loop-i.i n (omega arith) w.if-x-ne13.false w.if-bytes-next-ne10.false
-                ∙ ap (λ (k : ℕ). lead_at (drop k s) k (n + 1)) (sym w.i-is)
-          ],
-    )
+    let at = c.loop-at.at in
+    let some : 0 < length (take (length s - at) (drop at s)) = omega (arith, ap length (rest s at), length-drop at s) in
+    sym (c.loop-at.invariant.same
+    ∙ ap (λ (l : List ℕ). lead_at l at c.loop-at.lines) (rest s at)
+    ∙ lead-other _ at c.loop-at.lines c.eq.result some (other_text _ _ c.if-starts_with.ensures.value) (other_text _ _ c.if-starts_with-2.ensures.value)
+    (λ t. same_text _ _ (sym t ∙ c.eq.ensures)) (λ t. other_text _ _ (sym t ∙ c.eq.ensures)))
+
+pub loop-at-preserved : goal.loop-at-preserved
+loop-at-preserved c =
+    let s = c.args.bytes.now in
+    let at = c.loop-at.at in
+    let lines = c.loop-at.lines in
+    record {
+      apart =
+          elim c.if-starts_with.branch [
+            | then-starts_with w ↦ omega (arith, w.at-is)
+            | else-starts_with+then-starts_with-2 w ↦ omega (arith, w.at-is)
+          ];
+      same =
+          c.loop-at.invariant.same
+          ∙ elim c.if-starts_with.branch [
+            | then-starts_with w ↦ lead-empty (drop at s) at lines (same_text _ _ w.if-starts_with.ensures.value ∙ ap (take 1) (sym (rest s at)))
+                ∙ ap (λ (l : List ℕ). lead_at l (at + 1) (lines + 1)) (drop-drop 1 at s)
+                ∙ ap (λ (k : ℕ). lead_at (drop k s) k (lines + 1)) (sym w.at-is)
+            | else-starts_with+then-starts_with-2 w ↦ lead-cr (drop at s) at lines (same_text _ _ w.if-starts_with-2.ensures.value ∙ ap (take 2) (sym (rest s at)))
+                ∙ ap (λ (l : List ℕ). lead_at l (at + 2) (lines + 1)) (drop-drop 2 at s)
+                ∙ ap (λ (k : ℕ). lead_at (drop k s) k (lines + 1)) (sym w.at-is)
+          ];
+    }
 
 pub returns : goal.returns
 returns c =
-    c.next_line-2.ensures
-    ∙ sym (c.loop-i.invariant.1
-    ∙ lead-past c.args.bytes.now c.loop-i.i c.loop-i.n c.loop-i-test.false)
+    let s = c.args.bytes.now in
+    let at = c.loop-at.at in
+    let lines = c.loop-at.lines in
+    sym (c.loop-at.invariant.same
+    ∙ ap (λ (l : List ℕ). lead_at l at lines) (drop_all at s c.loop-at-test.false)
+    ∙ lead-none at lines)

@@ -1,41 +1,16 @@
--- `move_ends` takes end by end. The loop's invariant: the first i ends are moved, as `moved_ends` says. Assumes nothing.
-use Prim.Native.Nat.{ℕ, ◌-◌}
-use native.Mathlib.Omega.{arith}
-use mathlib.Core.List.{List}
-use mathlib.Core.Path.{◌≡◌, refl, sym, ap, ◌∙◌}
-use lib.ListN.{get_or, set, length-set}
-use Rattle.scan.specs.Move.{moved_ends}
-use Rattle.scan.proofs.MoveLaws.{moved-ends-outside, moved-ends-start, moved-ends-turn}
+-- A turn of the loop of `move_ends` moves one more end.
+use Rattle.std.proofs.Common.{ℕ, ◌-◌, ◌<◌, sym, ap, ◌∙◌, length, slice_index_or, slice_set, arith}
+use Rattle.std.specs.Prelude.{take}
+use Rattle.std.proofs.lemmas.Grind.{get_or_default_zero}
+use Rattle.std.proofs.lemmas.List.Edits.{map_over_more}
 use Rattle.scan.proofs.moves.move_ends.Goals as goal
 
-pub returns-then-ends-count : goal.returns-then-ends-count
-returns-then-ends-count c =
-    let a = c.args in
-    sym (moved-ends-outside a.count a.by a.ends.now c.if-ends-count.true)
-
-pub loop-i-init : goal.loop-i-init
-loop-i-init c =
-    let a = c.args in
-    (omega arith, (sym (moved-ends-start a.by a.ends.now), refl))
-
-pub loop-i-preserved : goal.loop-i-preserved
-loop-i-preserved c =
-    let a = c.args in
-    let i = c.loop-i.i in (
-      omega arith,
-      (
-        ap (λ (n : ℕ). set c.loop-i.ends i n) c.less.ensures
-            ∙ ap (λ (l : List ℕ). set l i (get_or l i 0 - a.by)) c.loop-i.invariant.1.0
-            ∙ moved-ends-turn i a.by a.ends.now (omega arith),
-        simp length-set c.loop-i.invariant.1.1,
-      ),
-    )
-
-pub shape_of-ends : goal.shape_of-ends
-shape_of-ends c = c.loop-i.invariant.1.1
-
-pub returns : goal.returns
-returns c =
-    let a = c.args in
-    let all : c.loop-i.i ≡ a.count = omega arith in
-    c.loop-i.invariant.1.0 ∙ ap (λ (n : ℕ). moved_ends n a.by a.ends.now) all
+pub loop-end-preserved : goal.loop-end-preserved
+loop-end-preserved c =
+    let at = c.loop-end in
+    let front = take c.args.count c.args.ends.now in
+    let end = slice_index_or at.end-items at.end-index 0 in
+    let in_range : at.end-index < length at.end-items = omega arith in
+    ap (slice_set at.end-items at.end-index) c.saturating_sub.ensures
+    ∙ map_over_more (λ (e : ℕ). e - c.args.by) front at.end-items at.end-index end c.loop-end-test.true at.invariant
+    (sym (get_or_default_zero at.end-items at.end-index end in_range))

@@ -1,12 +1,7 @@
--- The loop of `move_ends`.
-use Prim.Native.Nat.{◌-◌, ◌≤◌}
-use mathlib.Core.Path.{◌≡◌}
-use lib.ListN.{length}
-use Rattle.scan.specs.Move.{moved_ends}
+-- The loop of `move_ends`: the ends before the present one are moved.
+use Rattle.std.proofs.Common.{◌≡◌, ℕ, ◌-◌, ◌++◌}
+use Rattle.std.specs.Prelude.{map, take, drop}
 use Rattle.scan.proofs.moves.move_ends.Given as goal
 
-abbrev pub invariant-loop-i : goal.invariant-loop-i
-invariant-loop-i l = (l.i ≤ l.count) × ((l.ends ≡ moved_ends l.i l.by l.initial.ends) × (length l.ends ≡ length l.initial.ends))
-
-abbrev pub decreases-loop-i : goal.decreases-loop-i
-decreases-loop-i l = l.count - l.i
+abbrev pub invariant-loop-end : goal.invariant-loop-end
+invariant-loop-end l = let ends = l.initial.end-items in l.end-items ≡ map (λ (e : ℕ). e - l.by) (take l.end-index ends) ++ drop l.end-index ends

@@ -1,16 +1,7 @@
--- `part` tests both places: inside and outside are the two cases of `between`. Assumes nothing.
-use native.Mathlib.Omega.{arith}
-use mathlib.Core.Path.{sym}
-use Rattle.view.proofs.Cases.{between_in, between-out}
-use Rattle.view.proofs.parts.part.Goals.{else-from-to, then-from-to+else-to-bytes}
+-- `part`: inside and outside are the two cases of `between`. Assumes nothing.
+use Rattle.std.proofs.Common.{refl}
+use Rattle.view.proofs.Cases.{got}
 use Rattle.view.proofs.parts.part.Goals as goal
 
-pub returns-then-to-bytes : goal.returns-then-to-bytes
-returns-then-to-bytes c =
-    let a = c.args in
-    sym (between_in a.bytes.now a.from a.to (omega arith) (omega arith))
-
 pub returns : goal.returns
-returns c =
-    let a = c.args in
-    sym (between-out a.bytes.now a.from a.to (λ h k. elim c.if-from-to.branch [ then-from-to+else-to-bytes w ↦ omega arith | else-from-to w ↦ omega arith ]))
+returns c = got c.args.bytes.now c.args.extent.from c.args.extent.to c.get.result c.unwrap_or.result _ c.get.ensures.lookup.0 c.unwrap_or.ensures refl

@@ -1,19 +1,13 @@
 -- `grow` answers what the policy does. Assumes nothing.
-use Prim.Native.Nat.{ℕ}
-use mathlib.Core.Path.{sym, ap, ◌∙◌}
-use mathlib.Core.Option.{Option}
-use Rattle.growth.specs.Growth.{says}
-use Rattle.window.specs.Fill.{widened_to, wider}
+use Rattle.std.proofs.Common.{arith}
+use Rattle.std.proofs.lemmas.Bool.Decides.{nat_tests}
+use Rattle.window.specs.Fill.{widened_to}
 use Rattle.window.proofs.fill.Fill.grow.Goals as goal
 
-pub returns-in-To : goal.returns-in-To
+pub returns-in_err-capacity : goal.returns-in_err-capacity
 unfolding widened_to
-returns-in-To c =
-    let f = c.args.self in
-    ap (λ (o : Option ℕ). wider o f) (ap says (sym c.in-To.is) ∙ c.grow_to.ensures)
+returns-in_err-capacity c = grind (arith, nat_tests)
 
-pub returns-in-No : goal.returns-in-No
+pub returns : goal.returns
 unfolding widened_to
-returns-in-No c =
-    let f = c.args.self in
-    ap (λ (o : Option ℕ). wider o f) (ap says (sym c.in-No.is) ∙ c.grow_to.ensures)
+returns c = grind (arith, nat_tests)

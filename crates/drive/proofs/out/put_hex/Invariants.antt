@@ -1,6 +1,0 @@
--- What is left of the bytes is the measure.
-use Rattle.std.proofs.Common.{length, ◌-◌}
-use Rattle.drive.proofs.out.put_hex.Given as goal
-
-abbrev pub decreases-loop-i : goal.decreases-loop-i
-decreases-loop-i l = length l.bytes - l.i

@@ -1,0 +1,2 @@
+-- What every refusal keeps to.
+pub mod Refusal
