@@ -18,8 +18,13 @@ use script::{BadScript, ROOM, Script};
 use sets::Last;
 use std::io::{Read, Stdin};
 
+// All scripts have at most 1 MiB; one byte more shows that there is more.
+const MOST: usize = 1048576;
+
+const MEMORY: usize = 1048577;
+
 fn main(rt: HostRuntime) {
-    let mut memory = [0u8; 1048577];
+    let mut memory = [0u8; MEMORY];
     let scripts = read_all(rt.stdin(), &mut memory);
     let mut out = Output::new(rt.stdout());
     if let Err(e) = run_all(scripts, &mut out) {
@@ -28,14 +33,14 @@ fn main(rt: HostRuntime) {
     out.flush();
 }
 
-// All scripts have at most 1 MiB; one byte more shows that there is more. `main` does not call `read_full` itself,
-// since the check of the answer's bounds (`slice_bounds-read_full-end`) runs out of stack where the array's bytes are
-// written.
-fn read_all(from: Stdin, memory: &mut [u8; 1048577]) -> &[u8] {
+// `main` does not call `read_full` itself, since the check of the answer's bounds (`slice_bounds-read_full-end`) runs
+// out of stack where the array's bytes are written.
+fn read_all(from: Stdin, memory: &mut [u8; MEMORY]) -> &[u8] {
     read_full(from, memory)
 }
 
-// Reads until the memory is full, the input ends or a read fails; answers what is read.
+// Reads until the memory is full, the input ends or a read fails; answers what is read. How many reads there are is
+// known from them alone.
 fn read_full<'a>(mut from: Stdin, memory: &'a mut [u8]) -> &'a [u8] {
     let mut done = 0;
     while let Ok(n @ 1..) = from.read(&mut memory[done..]) {
@@ -47,7 +52,7 @@ fn read_full<'a>(mut from: Stdin, memory: &'a mut [u8]) -> &'a [u8] {
 // All scripts, one after the other; they have at most 1 MiB. A script takes a byte at least, so that the turns are
 // counted by the bytes.
 fn run_all(bytes: &[u8], out: &mut Output) -> Result<(), BadScript> {
-    if 1048576 < bytes.len() {
+    if MOST < bytes.len() {
         return Err(BadScript);
     }
     let mut memory = Memory::new();

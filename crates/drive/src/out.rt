@@ -8,10 +8,13 @@ use std::fmt::{Display, Formatter, Write};
 use std::io::Stdout;
 use view::{Full, FullError, View};
 
+// How much is kept.
+const LENGTH: usize = 65536;
+
 // A write that fails is passed over, and the program goes on.
 #[derive(Drop)]
 pub(crate) struct Output {
-    buffer: [u8; 65536],
+    buffer: [u8; LENGTH],
     at: usize,
     stdout: Stdout,
     ghost inside: { at ≤ 65536 },
@@ -20,7 +23,7 @@ pub(crate) struct Output {
 impl Output {
     pub(crate) fn new(stdout: Stdout) -> Output {
         Output {
-            buffer: [0; 65536],
+            buffer: [0; LENGTH],
             at: 0,
             stdout,
         }

@@ -1,4 +1,5 @@
-// Growth and the setup test. A policy comes as the number of its kind with n and limit beside it.
+// Growth and the setup test. A policy comes as the number of its kind with n and limit beside it, and a setup as
+// numbers, since C calls them so.
 ghost use Rattle.edge.specs.Edge.{GrowIs, SetupIs};
 
 use growth::Policy;
@@ -37,7 +38,8 @@ pub fn larizemba_setup_check(
     if Policy::of_kind(kind, n, limit).is_none() {
         return SetupError.number();
     }
-    if capacity < Reader::MIN || window < capacity || 1 << 31 < window || slots == 0 {
+    // The tests of `Reader::new`, which takes the slices that C has only the lengths of.
+    if capacity < Reader::MIN || window < capacity || Reader::MOST_WINDOW < window || slots == 0 {
         return SetupError.number();
     }
     0

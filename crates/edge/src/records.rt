@@ -1,6 +1,6 @@
 // The writers of a record that stands in bytes, given by the place of its `>` and its line ends, the head's end first.
 // They answer as the other writers do, and besides 11 where an end that they use is not rising between `start` and the
-// bytes' end, or there is none.
+// bytes' end, or there is none. A record comes as its three parts, since C calls them so.
 ghost use Rattle.edge.specs.Edge.{WriteUnchangedIs, WriteWrapSeqIterIs};
 
 use crate::tell::tell;

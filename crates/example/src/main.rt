@@ -59,7 +59,7 @@ fn fill(input: &mut impl Read, ask: Ask, window: &mut [u8]) -> io::Result<usize>
     input.read(part)
 }
 
-// The views: a part of the window, or lines joined in the scratch.
+// The views: a part of the window, or lines joined in the scratch. What is lent is lent to each call anew.
 fn show(
     rt: &impl Print,
     reader: Reader,

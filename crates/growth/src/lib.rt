@@ -34,6 +34,7 @@ impl Policy {
         ensures { GrowTo self size window result }
     {
         match self {
+            // 01's number of this policy, which nothing else has.
             Policy::StdPolicy => grow_by(8388608, window, size, window),
             Policy::DoubleUntil(n) => grow_by(n, window, size, window),
             Policy::DoubleUntilLimited { until, limit } => grow_by(until, limit, size, window),

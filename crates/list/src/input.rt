@@ -17,7 +17,7 @@ pub(crate) fn bring(
     Ok(reported.reader)
 }
 
-// One read into the part of the window that is asked for.
+// One read into the part of the window that is asked for. The example has its own, since it is whole in one file.
 fn read_asked(input: &mut impl Read, ask: Ask, window: &mut [u8]) -> io::Result<usize> {
     let behind = window
         .get_mut(ask.place.0..)

@@ -9,14 +9,14 @@ use crate::state::{Current, Mark, Phase, Position, Reader, Reported, Sought};
 use growth::Policy;
 use window::{Fill, InputOffset, WindowOffset, to_input, to_window};
 
-// The longest window.
-const MOST_WINDOW: usize = 1 << 31;
-
 impl Reader {
     // The least capacity, and the one that serves most inputs.
     pub const MIN: usize = 3;
 
     pub const DEFAULT: usize = 65536;
+
+    // The longest window.
+    pub const MOST_WINDOW: usize = 1 << 31;
 
     // A reader of an input from its first byte on, over the window and the table that are shown, or refusal 1.
     #[tactic(auto, unfolding(crate::specs::Calls::setup_of, crate::specs::Calls::setup_refused))]
@@ -30,7 +30,7 @@ impl Reader {
     {
         let lent = window.len();
         let slots = ends.len();
-        if capacity < Reader::MIN || lent < capacity || MOST_WINDOW < lent || slots == 0 {
+        if capacity < Reader::MIN || lent < capacity || Reader::MOST_WINDOW < lent || slots == 0 {
             return Err(SetupError);
         }
         Ok(Reader {

@@ -10,6 +10,7 @@ use crate::state::{Answer, Mark, Next, Phase, Reader};
 use scan::{Searched, Stop};
 use window::WindowOffset;
 
+// `Good` is asked of each step, for the reason that read.rt gives.
 impl Reader {
     // The record is searched from where the last search stopped, and is given, refused, or wants more of the input.
     #[tactic(auto, using(crate::proofs::FoundLaws::founds))]

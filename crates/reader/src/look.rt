@@ -8,6 +8,7 @@ use crate::error::RecordError;
 use crate::state::{Look, Mark, Phase, Reader, Sight};
 use scan::Stop;
 
+// `Good` is asked of each step, for the reason that read.rt gives.
 impl Reader {
     // The record behind the current one, if it is whole in the filled bytes. Nothing is asked for, and nothing moves.
     #[tactic(auto, using(crate::proofs::Sanity::sanity), unfolding(crate::specs::Look::look_of))]

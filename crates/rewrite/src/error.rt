@@ -48,6 +48,7 @@ impl Refusal for RewriteError {
     }
 }
 
+// Each case is named by itself: a conversion is no derive.
 impl From<RecordError> for RewriteError {
     ghost from_gives = { FromRecord };
 

@@ -75,7 +75,8 @@ fn head_len(head: Option<&[u8]>) -> usize
     head.map_or(0, |head| head.len() + 2)
 }
 
-// The length of `n` joined bytes in lines of `wrap` bytes, of which there is one at least.
+// The length of `n` joined bytes in lines of `wrap` bytes, of which there is one at least. The width is no
+// NonZeroUsize, as in write.
 fn wrap_len(n: usize, wrap: usize) -> usize
     requires { 0 < wrap }
     ensures { result ≡ cut (wrap_len wrap n) }

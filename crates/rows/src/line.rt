@@ -12,7 +12,8 @@ use reader::Answer;
 const TAB: &[u8] = b"\t";
 
 // Line, tab, byte, tab, id, tab, joined length, newline. Output and place stay two parameters here and in `put_last`:
-// the caller keeps them from call to call, a place where nothing was put too.
+// the caller keeps them from call to call, a place where nothing was put too. A row's values come by themselves, since
+// no other function takes them.
 #[tactic(auto, using(crate::proofs::Digits::digits_short))]
 pub fn put_row(
     line: u64,

@@ -21,7 +21,8 @@ pub struct Searched {
 }
 
 // The ends of lines from `from` on are recorded behind the first `count`, `limit` at most, up to a `\n` behind which
-// `mark` stands. A `\n` that is the last byte is not recorded: what follows it is not known.
+// `mark` stands. A `\n` that is the last byte is not recorded: what follows it is not known. The parameters are those
+// of `Search`, one by one, and no two of them go together elsewhere.
 pub fn search(
     bytes: &[u8],
     ends: &mut [usize],

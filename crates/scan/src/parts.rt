@@ -1,7 +1,8 @@
 // A part copied into the output.
 ghost use Rattle.scan.specs.Move.{Copy};
 
-// `src` into `out` from `at` on. Where it does not fit there, nothing changes.
+// `src` into `out` from `at` on. Where it does not fit there, nothing changes. Output and place stay two parameters: no
+// place is left when the call is over.
 #[tactic(auto, unfolding(crate::specs::Move::pasted))]
 pub fn copy<T: Copy>(src: &[T], out: &mut [T], at: usize)
     ensures { Copy at src.now out.old out.new }

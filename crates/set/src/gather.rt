@@ -38,7 +38,8 @@ impl<'a> Tables<'a> {
     }
 
     // The current record goes behind the others, if there is room for it: its start, the number of the ends up to its
-    // last, and its ends. A sum that stops at the largest number is above the length of every table.
+    // last, and its ends. A sum that stops at the largest number is above the length of every table. Whether there was
+    // room is all that there is to answer.
     #[tactic(auto, using(crate::proofs::Gathering::half_is))]
     pub(crate) fn put(&mut self, reader: Reader, table: &[usize]) -> bool
         ensures same_marks { self.new.marks.ghost_name ≡ self.old.marks.ghost_name }

@@ -88,7 +88,8 @@ impl Set {
 }
 
 // How many ends the records before number i have. That the table has record i's two marks is a fact of the table and i
-// together, which each of the three takes from `Set::record`; no value holds both.
+// together, which each of the three takes from `Set::record`; no value holds both. The first record has none before
+// it, by the same two cases as in the definition.
 fn ends_before(marks: &[usize], i: usize) -> usize
     requires { i + i + 1 < length marks.now }
     ensures { result ≡ ends_before marks.now i }

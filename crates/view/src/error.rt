@@ -23,6 +23,7 @@ pub enum FullError {
     State,
 }
 
+// Each case is named by itself: a conversion is no derive.
 impl From<RecordError> for ViewError {
     ghost from_gives = { AsView };
 

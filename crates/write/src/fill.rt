@@ -46,7 +46,8 @@ fn parts_len(parts: &[&[u8]]) -> usize
     len
 }
 
-// The length of a sequence in lines of `wrap` bytes, or 2^64 - 1 if it is more: each line has a `\n`.
+// The length of a sequence in lines of `wrap` bytes, or 2^64 - 1 if it is more: each line has a `\n`. The width is no
+// NonZeroUsize: it would be made at the one test, and taken apart where it is used.
 fn lines_len(seq: usize, wrap: usize) -> usize
     requires { 0 < wrap }
     ensures { result ≡ cut (seq + line_count wrap seq) }
