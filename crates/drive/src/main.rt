@@ -75,8 +75,8 @@ fn run_one(
     out: &mut Output,
 ) -> Result<(), BadScript> {
     let setup = script.setup()?;
-    memory.window.fill(0);
-    memory.table.fill(0);
+    setup.window.front_mut(&mut memory.window).fill(0);
+    setup.table.front_mut(&mut memory.table).fill(0);
     let lent = setup.window.front(&memory.window);
     let slots = setup.table.front(&memory.table);
     match Reader::new(setup.capacity, setup.policy, lent, slots) {
