@@ -1,11 +1,8 @@
 // The memory that readers and sets are lent: a window and a table; and a set's bytes, two marks for each record, and
 // its ends. Each call takes the fronts that it names.
-use crate::calls::Which;
-use crate::script::{ENDS, MARKS, ROOM, Setup};
+use crate::script::{ENDS, MARKS, ROOM};
 use crate::sets::Last;
-use reader::{Reader, RecordError};
 use set::SetRef;
-use view::{Record, current_record};
 
 #[derive(Drop)]
 pub(crate) struct Memory {
@@ -24,23 +21,6 @@ impl Memory {
             bytes: [0; ROOM],
             marks: [0; MARKS],
             ends: [0; ENDS],
-        }
-    }
-
-    // The reader's current record, or a record of the last set.
-    pub(crate) fn record(
-        &self,
-        which: Which,
-        reader: Reader,
-        setup: Setup,
-        last: Last,
-    ) -> Result<Record<'_, '_>, RecordError> {
-        match which {
-            Which::Current => {
-                let window = setup.window.front(&self.window);
-                current_record(reader, window, setup.table.front(&self.table))
-            }
-            Which::Held(i) => self.held(last).record(i),
         }
     }
 

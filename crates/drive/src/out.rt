@@ -4,12 +4,14 @@ ghost use Rattle.std.specs.Prelude.{◌≡◌, ◌≤◌};
 use reader::Position;
 use refusal::Refusal;
 use std::fmt;
-use std::fmt::{Display, Formatter, Write};
+use std::fmt::{Display, Write};
 use std::io::Stdout;
 use view::{Full, FullError, View};
 
 // How much is kept.
 const LENGTH: usize = 65536;
+
+const DIGITS: &[u8; 16] = b"0123456789abcdef";
 
 // A write that fails is passed over, and the program goes on.
 #[derive(Drop)]
@@ -53,7 +55,18 @@ impl Output {
     // What a writer answers, of which the room holds the text.
     pub(crate) fn wrote(&mut self, length: Result<usize, impl Refusal>, room: &[u8]) {
         match length {
-            Ok(n) => self.line(format_args!("wrote {}", Hex(room.get(..n).unwrap_or(room)))),
+            Ok(n) => self.parts("wrote", &[room.get(..n).unwrap_or(room)]),
+            Err(refusal) => self.refusal(refusal),
+        }
+    }
+
+    // The same of a free writer, with what is left of the room too.
+    pub(crate) fn wrote_free(&mut self, length: Result<usize, impl Refusal>, room: &[u8]) {
+        match length {
+            Ok(n) => {
+                let (text, left) = room.split_at_checked(n).unwrap_or((room, &[]));
+                self.parts("wrote", &[text, left]);
+            }
             Err(refusal) => self.refusal(refusal),
         }
     }
@@ -61,7 +74,7 @@ impl Output {
     // What a view shows.
     pub(crate) fn view(&mut self, view: View, bytes: &[u8]) {
         match view {
-            Ok(Some(_)) => self.line(format_args!("part {}", Hex(view::shown(view, bytes)))),
+            Ok(Some(_)) => self.parts("part", &[view::shown(view, bytes)]),
             Ok(None) => self.line("none"),
             Err(refusal) => self.refusal(refusal),
         }
@@ -69,10 +82,10 @@ impl Output {
 
     // A full sequence: the part of the bytes or of the scratch that it is.
     pub(crate) fn full(&mut self, full: Result<Full, FullError>, bytes: &[u8], scratch: &[u8]) {
-        let picked = Hex(view::pick(full, bytes, scratch));
+        let picked = view::pick(full, bytes, scratch);
         match full {
-            Ok(Full::Window(_)) => self.line(format_args!("window {picked}")),
-            Ok(Full::Scratch(_)) => self.line(format_args!("scratch {picked}")),
+            Ok(Full::Window(_)) => self.parts("window", &[picked]),
+            Ok(Full::Scratch(_)) => self.parts("scratch", &[picked]),
             Err(refusal) => self.refusal(refusal),
         }
     }
@@ -90,6 +103,43 @@ impl Output {
         self.at = 0;
     }
 
+    // A word and parts in hex, as a line. The digits go straight into the buffer: `{:02x}` costs several times as much.
+    pub(crate) fn parts(&mut self, word: &str, parts: &[&[u8]]) {
+        self.text(word.as_bytes());
+        for part in parts {
+            self.put(b' ');
+            self.hex(part);
+        }
+        self.put(b'\n');
+    }
+
+    // `-` for none.
+    fn hex(&mut self, bytes: &[u8]) {
+        if bytes.is_empty() {
+            self.put(b'-');
+        }
+        for byte in bytes {
+            let high = DIGITS[(*byte / 16) as usize];
+            let low = DIGITS[(*byte % 16) as usize];
+            self.text(&[high, low]);
+        }
+    }
+
+    // Keeps a text: as one copy where there is room for it, else byte by byte. A byte alone costs less without one.
+    fn text(&mut self, text: &[u8]) {
+        let end = self.at + text.len();
+        if 1 < text.len()
+            && let Some(part) = self.buffer.get_mut(self.at..end)
+        {
+            part.copy_from_slice(text);
+            self.at = end;
+            return;
+        }
+        for byte in text {
+            self.put(*byte);
+        }
+    }
+
     // Keeps one byte more.
     fn put(&mut self, byte: u8) {
         if self.at == self.buffer.len() {
@@ -102,25 +152,7 @@ impl Output {
 
 impl Write for Output {
     fn write_str(&mut self, text: &str) -> fmt::Result {
-        for byte in text.as_bytes() {
-            self.put(*byte);
-        }
-        Ok(())
-    }
-}
-
-// Bytes in hex, `-` for none.
-#[derive(Clone, Copy)]
-pub(crate) struct Hex<'a>(pub(crate) &'a [u8]);
-
-impl Display for Hex<'_> {
-    fn fmt<W: Write>(&self, f: &mut Formatter<W>) -> fmt::Result {
-        if self.0.is_empty() {
-            return write!(f, "-");
-        }
-        for byte in self.0 {
-            write!(f, "{byte:02x}")?;
-        }
+        self.text(text.as_bytes());
         Ok(())
     }
 }

@@ -1,26 +1,80 @@
-// Views and writers of the current record and of the last set's records, and the free writers.
+// Views and writers of the current record and of the last set's records, and the free writers. Each goes by the public
+// call that a user has: of the reader with window and table, or of the set.
 use crate::calls::{Free, Part, Which, Writer};
-use crate::out::{Hex, Output};
 use crate::run::Run;
 use crate::script::{Length, ROOM};
-use reader::RecordError;
-use rewrite::{RewriteError, write_in, write_unchanged_in, write_wrap_in};
-use view::Record;
 use write::WriteError;
 
 impl Run<'_> {
     pub(crate) fn view(&mut self, of: Which, part: Part) {
-        let record = self.memory.record(of, self.reader, self.setup, self.last);
-        match record {
-            Ok(record) => show(record, part, self.room, self.out),
-            Err(refusal) => self.out.refusal(refusal),
+        match of {
+            Which::Current => self.view_current(part),
+            Which::Held(i) => self.view_held(i, part),
         }
     }
 
+    fn view_current(&mut self, part: Part) {
+        let memory = &*self.memory;
+        let window = self.setup.window.front(&memory.window);
+        let ends = self.setup.table.front(&memory.table);
+        let reader = self.reader;
+        let shown = match part {
+            Part::Head => view::head(reader, window, ends),
+            Part::Id => view::id(reader, window, ends),
+            Part::Desc => view::desc(reader, window, ends),
+            Part::Seq => view::seq(reader, window, ends),
+            Part::Line(i) => view::line(reader, window, ends, i),
+            Part::Full(length) => {
+                let scratch = length.front_mut(self.room);
+                let full = view::full_seq(reader, window, ends, scratch);
+                self.out.full(full, window, scratch);
+                return;
+            }
+        };
+        self.out.view(shown, window);
+    }
+
+    fn view_held(&mut self, i: usize, part: Part) {
+        let held = self.memory.held(self.last);
+        let shown = match part {
+            Part::Head => held.head(i),
+            Part::Id => held.id(i),
+            Part::Desc => held.desc(i),
+            Part::Seq => held.seq(i),
+            Part::Line(n) => held.line(i, n),
+            Part::Full(length) => {
+                let scratch = length.front_mut(self.room);
+                let full = held.full_seq(i, scratch);
+                self.out.full(full, held.bytes, scratch);
+                return;
+            }
+        };
+        self.out.view(shown, held.bytes);
+    }
+
     pub(crate) fn write(&mut self, of: Which, writer: Writer, length: Length<ROOM>) {
-        let record = self.memory.record(of, self.reader, self.setup, self.last);
+        let memory = &*self.memory;
         let room = length.front_mut(self.room);
-        let wrote = rewritten(record, writer, room);
+        let wrote = match of {
+            Which::Current => {
+                let window = self.setup.window.front(&memory.window);
+                let ends = self.setup.table.front(&memory.table);
+                let reader = self.reader;
+                match writer {
+                    Writer::Write => rewrite::write(reader, window, ends, room),
+                    Writer::Wrap(wrap) => rewrite::write_wrap(reader, window, ends, wrap, room),
+                    Writer::Unchanged => rewrite::write_unchanged(reader, window, ends, room),
+                }
+            }
+            Which::Held(i) => {
+                let held = memory.held(self.last);
+                match writer {
+                    Writer::Write => held.write(i, room),
+                    Writer::Wrap(wrap) => held.write_wrap(i, wrap, room),
+                    Writer::Unchanged => held.write_unchanged(i, room),
+                }
+            }
+        };
         self.out.wrote(wrote, room);
     }
 
@@ -28,44 +82,8 @@ impl Run<'_> {
     pub(crate) fn write_free(&mut self, free: Free, length: Length<ROOM>) {
         let room = length.front_mut(self.room);
         room.fill(b'#');
-        match free.write(room) {
-            Ok(n) => {
-                let (text, left) = room.split_at_checked(n).unwrap_or((room, &[]));
-                self.out
-                    .line(format_args!("wrote {} {}", Hex(text), Hex(left)));
-            }
-            Err(refusal) => self.out.refusal(refusal),
-        }
-    }
-}
-
-fn show(record: Record, part: Part, room: &mut [u8; ROOM], out: &mut Output) {
-    let view = match part {
-        Part::Head => record.head(),
-        Part::Id => record.id(),
-        Part::Desc => record.desc(),
-        Part::Seq => record.seq(),
-        Part::Line(i) => record.line(i),
-        Part::Full(length) => {
-            let scratch = length.front_mut(room);
-            let full = record.full_seq(scratch);
-            out.full(full, record.bytes, scratch);
-            return;
-        }
-    };
-    out.view(view, record.bytes);
-}
-
-fn rewritten(
-    record: Result<Record, RecordError>,
-    writer: Writer,
-    room: &mut [u8],
-) -> Result<usize, RewriteError> {
-    let record = record?;
-    match writer {
-        Writer::Write => write_in(record, room),
-        Writer::Wrap(wrap) => write_wrap_in(record, wrap, room),
-        Writer::Unchanged => write_unchanged_in(record, room),
+        let wrote = free.write(room);
+        self.out.wrote_free(wrote, room);
     }
 }
 
