@@ -30,6 +30,9 @@ impl Reader {
     }
 
     // The record is searched on in the filled bytes, and where the input ends with them, the end closes it.
+    // Inlined, since both callers take the reader that it answers apart again: handed over in memory, a set of tiny
+    // records takes a sixth more.
+    #[inline(always)]
     pub(crate) fn find(self, window: &[u8], ends: &mut [usize]) -> (Reader, Stop)
         requires { Good self window.now ends.old }
         ensures found { found result ends.new ≡ found_in self window.now ends.old }

@@ -8,6 +8,10 @@ pub fn copy<T: Copy>(src: &[T], out: &mut [T], at: usize)
     ensures { Copy at src.now out.old out.new }
 {
     if at <= out.len() && src.len() <= out.len() - at {
-        out[at..at + src.len()].copy_from_slice(src);
+        // One by one: `copy_from_slice` is a call of `memmove`, which the archive for C would have to find outside, and
+        // which costs two or three times as much where the pieces have a few bytes.
+        for i in 0..src.len() {
+            out[at + i] = src[i];
+        }
     }
 }
